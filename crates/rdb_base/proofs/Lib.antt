@@ -1,0 +1,4 @@
+pub mod KeyOrder
+pub mod Lists
+pub mod MapLemmas
+pub mod HistoryLemmas
