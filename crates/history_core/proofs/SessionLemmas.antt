@@ -1,0 +1,72 @@
+-- Sessions over histories that grow. To know: `ReplaysAll-grown`, `ReplaysAll-last`, `least-forward`.
+use Rattle.std.proofs.Common.{◌≡◌, ℕ, zero, suc, ◌-◌, ◌≤◌, List, [], ◌∷◌, ◌++◌, Some, refl, ap, subst, ◌∙◌, arith}
+use Rattle.std.specs.Prelude.{slice_get}
+use Rattle.std.proofs.lemmas.List.{take-append-le, length-append}
+use Rattle.rdb_base.specs.declared.row.Row.{Row}
+use Rattle.rdb_base.specs.declared.entry.Entry.{Entry}
+use Rattle.rdb_base.specs.Maps.{applied_all, value_at}
+use Rattle.rdb_base.specs.Histories.{History, IsEntry, after, end}
+use Rattle.history_core.specs.declared.request.Request.{Request}
+use Rattle.history_core.specs.declared.request.Request.TheVariants.{Put, Get, Quit}
+use Rattle.history_core.specs.declared.reply.Reply.{Reply}
+use Rattle.history_core.specs.declared.reply.Reply.TheVariants.{Done, Value, Absent, Bye, OutOfMemory}
+use Rattle.history_core.specs.Sessions.{SessionState, Replays, ReplaysAll, put_entry}
+use Rattle.history_core.specs.Laws.{grown}
+
+slice_get-grown : (entries more : List Entry) (n : ℕ) (entry : Entry) → slice_get entries n ≡ Some entry → slice_get (entries ++ more) n ≡ Some entry
+slice_get-grown [] more n entry e = absurd cc
+slice_get-grown (x ∷ xs) more zero entry e = e
+slice_get-grown (x ∷ xs) more (suc n) entry e = slice_get-grown xs more n entry e
+
+pub IsEntry-grown : (history : History) (more : List Entry) (number : ℕ) (entry : Entry) → IsEntry history number entry → IsEntry (grown history more) number entry
+IsEntry-grown history more number entry is = (is.0, slice_get-grown history.entries more (number - history.first) entry is.1)
+
+-- the map at a front within the history does not see what comes later
+pub after-grown : (history : History) (more : List Entry) (front : ℕ) → front ≤ end history → after (grown history more) front ≡ after history front
+after-grown history more front le = ap (applied_all history.base) (take-append-le (front - history.first) history.entries more (omega arith))
+
+end-grown : (history : History) (more : List Entry) (front : ℕ) → front ≤ end history → front ≤ end (grown history more)
+end-grown history more front le = omega (arith, length-append history.entries more)
+
+pub Replays-grown : (history : History) (more : List Entry) (state : SessionState) (request : Request) (reply : Reply) (next : SessionState) → Replays history state request reply next → Replays (grown history more) state request reply next
+Replays-grown history more state (Put row) (Done number) next r = (r.0, IsEntry-grown history more number (put_entry state row) r.1, r.2)
+Replays-grown history more state (Get key) (Value front value) next r =
+    (r.0, end-grown history more front r.1, ap (λ (rows : List Row). value_at rows key) (after-grown history more front r.1) ∙ r.2, r.3)
+Replays-grown history more state (Get key) (Absent front) next r =
+    (r.0, end-grown history more front r.1, ap (λ (rows : List Row). value_at rows key) (after-grown history more front r.1) ∙ r.2, r.3)
+Replays-grown history more state Quit Bye next r = r
+Replays-grown history more state (Put row) OutOfMemory next r = r
+Replays-grown history more state (Get key) OutOfMemory next r = r
+Replays-grown history more state request reply next r = absurd r
+
+pub ReplaysAll-grown : (history : History) (more : List Entry) (state : SessionState) (requests : List Request) (replies : List Reply) (next : SessionState) → ReplaysAll history state requests replies next → ReplaysAll (grown history more) state requests replies next
+ReplaysAll-grown history more state [] [] next r = r
+ReplaysAll-grown history more state (request ∷ requests) (reply ∷ replies) next r = (r.0, Replays-grown history more state request reply r.0 r.1, ReplaysAll-grown history more r.0 requests replies next r.2)
+ReplaysAll-grown history more state [] (reply ∷ replies) next r = absurd r
+ReplaysAll-grown history more state (request ∷ requests) [] next r = absurd r
+
+-- one request more
+pub ReplaysAll-last : (history : History) (state : SessionState) (requests : List Request) (replies : List Reply) (between next : SessionState) (request : Request) (reply : Reply) → ReplaysAll history state requests replies between → Replays history between request reply next → ReplaysAll history state (requests ++ request ∷ []) (replies ++ reply ∷ []) next
+ReplaysAll-last history state [] [] between next request reply r step = (next, subst (λ (s : SessionState). Replays history s request reply next) r step, refl)
+ReplaysAll-last history state (q ∷ qs) (a ∷ rs) between next request reply r step = (r.0, r.1, ReplaysAll-last history r.0 qs rs between next request reply r.2 step)
+ReplaysAll-last history state [] (a ∷ rs) between next request reply r step = absurd r
+ReplaysAll-last history state (q ∷ qs) [] between next request reply r step = absurd r
+
+-- the least number never falls
+least-step : (history : History) (state : SessionState) (request : Request) (reply : Reply) (next : SessionState) → Replays history state request reply next → state.least ≤ next.least
+least-step history state (Put row) (Done number) next r = omega (arith, r.0, ap (λ (s : SessionState). s.least) r.2)
+least-step history state (Get key) (Value front value) next r = omega (arith, r.0, ap (λ (s : SessionState). s.least) r.3)
+least-step history state (Get key) (Absent front) next r = omega (arith, r.0, ap (λ (s : SessionState). s.least) r.3)
+least-step history state Quit Bye next r = omega (arith, ap (λ (s : SessionState). s.least) r)
+least-step history state (Put row) OutOfMemory next r = omega (arith, ap (λ (s : SessionState). s.least) r)
+least-step history state (Get key) OutOfMemory next r = omega (arith, ap (λ (s : SessionState). s.least) r)
+least-step history state request reply next r = absurd r
+
+pub least-forward : (history : History) (state next : SessionState) (requests : List Request) (replies : List Reply) → ReplaysAll history state requests replies next → state.least ≤ next.least
+least-forward history state next [] [] r = omega (arith, ap (λ (s : SessionState). s.least) r)
+least-forward history state next (request ∷ requests) (reply ∷ replies) r =
+    let first = least-step history state request reply r.0 r.1 in
+    let rest = least-forward history r.0 next requests replies r.2 in
+    omega (arith, first, rest)
+least-forward history state next [] (reply ∷ replies) r = absurd r
+least-forward history state next (request ∷ requests) [] r = absurd r

@@ -1,0 +1,72 @@
+-- The session relation: which replies requests may get over a history, and where the session then stands.
+use Rattle.std.specs.Prelude.{◌≡◌, ℕ, ◌+◌, ◌≤◌, List, [], ◌∷◌, length, Some, None}
+use Rattle.std.specs.List.{AllByRecursion}
+use Rattle.rdb_base.specs.declared.row.Row.{Row}
+use Rattle.rdb_base.specs.declared.entry.Entry.{Entry}
+use Rattle.rdb_base.specs.declared.change.Change.TheVariants as changes
+use Rattle.rdb_base.specs.Maps.{value_at}
+use Rattle.rdb_base.specs.Histories.{History, IsEntry, AreNumbered, after, end}
+use Rattle.history_core.specs.declared.request.Request.{Request}
+use Rattle.history_core.specs.declared.request.Request.TheVariants.{Put, Get, Quit}
+use Rattle.history_core.specs.declared.reply.Reply.{Reply}
+use Rattle.history_core.specs.declared.reply.Reply.TheVariants.{Done, Value, Absent, Bye, OutOfMemory}
+
+-- whose session it is, the ordinal of its next update, and the least number that it may still name
+pub record SessionState : Type 0 where
+  pub caller : ℕ
+  pub ordinal : ℕ
+  pub least : ℕ
+
+-- the entry that a put makes in this state
+abbrev pub put_entry : SessionState → Row → Entry
+put_entry state row = record { caller = state.caller; ordinal = state.ordinal; key = row.key; change = changes.Put row.value }
+
+-- the state after an update with this number
+abbrev pub updated_at : SessionState → ℕ → SessionState
+updated_at state number = record { caller = state.caller; ordinal = state.ordinal + 1; least = number + 1 }
+
+-- the state after a look at this front
+abbrev pub looked_at : SessionState → ℕ → SessionState
+looked_at state front = record { caller = state.caller; ordinal = state.ordinal; least = front }
+
+-- over this history a session in this state may answer the request so, and then stands in the next state
+abbrev pub Replays : History → SessionState → Request → Reply → SessionState → Type 0
+-- a put is entered under its number
+Replays history state (Put row) (Done number) next = (state.least ≤ number) × IsEntry history number (put_entry state row) × (next ≡ updated_at state number)
+-- a get answers what the map at its front has
+Replays history state (Get key) (Value front value) next = (state.least ≤ front) × (front ≤ end history) × (value_at (after history front) key ≡ Some value) × (next ≡ looked_at state front)
+Replays history state (Get key) (Absent front) next = (state.least ≤ front) × (front ≤ end history) × (value_at (after history front) key ≡ None) × (next ≡ looked_at state front)
+Replays history state Quit Bye next = next ≡ state
+-- want of memory changes nothing
+Replays history state (Put row) OutOfMemory next = next ≡ state
+Replays history state (Get key) OutOfMemory next = next ≡ state
+-- no other reply is given
+Replays history state request reply next = ⊥
+
+-- the same of requests and their replies, one after the other
+abbrev pub ReplaysAll : History → SessionState → List Request → List Reply → SessionState → Type 0
+ReplaysAll history state [] [] next = next ≡ state
+ReplaysAll history state (request ∷ requests) (reply ∷ replies) next = (between : SessionState) × Replays history state request reply between × ReplaysAll history between requests replies next
+ReplaysAll history state [] (reply ∷ replies) next = ⊥
+ReplaysAll history state (request ∷ requests) [] next = ⊥
+
+-- where the session of the only caller begins
+abbrev pub begun : ℕ → SessionState
+begun number = record { caller = 0; ordinal = 0; least = number }
+
+-- These are the replies of a session to these requests, over a history that began with this map and number and has
+-- the session's updates, once each and in order, and nobody else's.
+pub record IsSession (rows : List Row) (number : ℕ) (requests : List Request) (replies : List Reply) : Type 0 where
+  pub entries : List Entry
+  pub last : SessionState
+  pub callers : AllByRecursion (λ entry. entry.caller ≡ 0) entries
+  pub numbered : AreNumbered 0 entries
+  pub all : last.ordinal ≡ length entries
+  pub replays : ReplaysAll (record { base = rows; first = number; entries = entries }) (begun number) requests replies last
+
+-- up to the first QUIT, with it
+abbrev pub until_quit : List Request → List Request
+until_quit [] = []
+until_quit (Put row ∷ requests) = Put row ∷ until_quit requests
+until_quit (Get key ∷ requests) = Get key ∷ until_quit requests
+until_quit (Quit ∷ requests) = Quit ∷ []

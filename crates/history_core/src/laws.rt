@@ -1,0 +1,8 @@
+//! What holds of the session relation, as a call that carries it in its contract. It does nothing.
+ghost use Rattle.history_core.specs.Laws.{NeverFallsBehind, StandsWhenHistoryGrows};
+
+/// The numbers that the replies of a session name never fall behind, and replies stand when others add to the history.
+pub fn replies_over_history()
+    ensures forward { NeverFallsBehind }
+    ensures growing { StandsWhenHistoryGrows }
+{}
