@@ -1,0 +1,59 @@
+-- What a decoder lacks after a part of a message came.
+use Rattle.std.proofs.Common.{◌≡◌, ℕ, ◌+◌, ◌-◌, ◌<◌, ◌≤◌, Bool, true, false, cond, List, ◌++◌, length, take, drop, refl, ap, ◌∙◌, sym, append_assoc, arith, inl, inr, min}
+use Rattle.std.proofs.Math.Seq.{take-add}
+use Rattle.std.proofs.lemmas.List.{length-append, length-take, length-drop, take-append-le}
+use Rattle.std.proofs.lemmas.Bool.{cases_lt, lt-ltb, le-ltb}
+use Rattle.wire_protocol.specs.Messages.{wanted, body_length, is_refused_length}
+
+two_parts : (old piece : List ℕ) (n m : ℕ) → (old ++ take n piece) ++ take m (drop n piece) ≡ old ++ take (n + m) piece
+two_parts old piece n m = append_assoc old (take n piece) (take m (drop n piece)) ∙ ap (λ (t : List ℕ). old ++ t) (sym (take-add n m piece))
+
+-- what is lacking behind a whole length
+abbrev lacking : Bool → ℕ → ℕ → ℕ
+lacking refused body len = cond refused 0 (4 + body - len)
+
+wanted_behind : (bytes : List ℕ) → 4 ≤ length bytes → wanted bytes ≡ lacking (is_refused_length (body_length bytes)) (body_length bytes) (length bytes)
+wanted_behind bytes le = rw (le-ltb _ _ le) refl
+
+wanted_before : (bytes : List ℕ) → length bytes < 4 → wanted bytes ≡ 4 - length bytes
+wanted_before bytes lt = rw (lt-ltb _ _ lt) refl
+
+filled : (refused : Bool) (body len more : ℕ) → more ≡ lacking refused body len → lacking refused body (len + more) ≡ 0
+filled true body len more e = refl
+filled false body len more e = omega arith
+
+-- so many bytes as are lacking of a body fill it
+pub wanted-filled : (bytes part : List ℕ) → 4 ≤ length bytes → length part ≡ wanted bytes → wanted (bytes ++ part) ≡ 0
+wanted-filled bytes part le e =
+    let long : 4 ≤ length (bytes ++ part) = omega (arith, length-append bytes part) in
+    let same : body_length (bytes ++ part) ≡ body_length bytes = rw (take-append-le 4 bytes part le) refl in
+    wanted_behind (bytes ++ part) long ∙ rw (same, length-append bytes part) (filled (is_refused_length (body_length bytes)) (body_length bytes) (length bytes) (length part) (e ∙ wanted_behind bytes le))
+
+four_there : (old p : List ℕ) (n : ℕ) → n ≡ wanted old → n < length p → 4 ≤ length (old ++ take n p)
+four_there old p n e lt =
+    let len : length (old ++ take n p) ≡ length old + n = omega (arith, length-append old (take n p), length-take n p) in
+    elim (cases_lt (length old) 4) [
+      | inl few ↦ omega (arith, len, e ∙ wanted_before old few)
+      | inr le ↦ omega (arith, len)
+    ]
+
+-- where less than the piece was taken, in two parts, nothing is lacking
+pub fed_fully : (old p : List ℕ) (n m : ℕ) → n ≡ min (wanted old) (length p) → m ≡ min (wanted (old ++ take n p)) (length (drop n p)) → n + m < length p → wanted ((old ++ take n p) ++ take m (drop n p)) ≡ 0
+fed_fully old p n m e f lt =
+    let rest : length (drop n p) ≡ length p - n = length-drop n p in
+    let first : n ≡ wanted old = omega (arith, e) in
+    let second : m ≡ wanted (old ++ take n p) = omega (arith, f, rest) in
+    let len : length (take m (drop n p)) ≡ m = omega (arith, length-take m (drop n p), rest) in
+    wanted-filled (old ++ take n p) (take m (drop n p)) (four_there old p n first (omega arith)) (len ∙ second)
+
+pub fed_in_two : (old piece : List ℕ) (n m : ℕ) → (old ++ take n piece) ++ take m (drop n piece) ≡ old ++ take (n + m) piece
+fed_in_two old piece n m = two_parts old piece n m
+
+-- the same, with the names that the call's steps have
+pub fed : (old p front rest b1 : List ℕ) (w1 w2 n m : ℕ) → w1 ≡ wanted old → n ≡ min w1 (length p) → front ≡ take n p → rest ≡ drop n p → b1 ≡ old ++ front → w2 ≡ wanted b1 → m ≡ min w2 (length rest) → n + m < length p
+    → wanted ((old ++ take n p) ++ take m (drop n p)) ≡ 0
+fed old p front rest b1 w1 w2 n m a e f g h b k lt =
+    let one : n ≡ min (wanted old) (length p) = e ∙ ap (λ w. min w (length p)) a in
+    let is : b1 ≡ old ++ take n p = h ∙ ap (λ (t : List ℕ). old ++ t) f in
+    let two : m ≡ min (wanted (old ++ take n p)) (length (drop n p)) = k ∙ ap (λ w. min w (length rest)) (b ∙ ap (λ (t : List ℕ). wanted t) is) ∙ ap (λ (t : List ℕ). min (wanted (old ++ take n p)) (length t)) g in
+    fed_fully old p n m one two lt

@@ -1,0 +1,4 @@
+pub mod ReadingLemmas
+pub mod Feeding
+pub mod Whole
+pub mod Replies

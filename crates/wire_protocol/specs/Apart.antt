@@ -1,0 +1,25 @@
+-- Bytes are the spelling of one list of messages at most.
+use Rattle.std.specs.Prelude.{◌≡◌, ℕ, ◌<◌, ◌^◌, List, ◌++◌, length}
+use Rattle.rdb_base.specs.Lengths.{IsValueLength}
+use Rattle.history_core.specs.declared.request.Request.{Request}
+use Rattle.history_core.specs.declared.reply.Reply.{Reply}
+use Rattle.history_core.specs.declared.reply.Reply.TheVariants.{Done, Value, Absent, Bye, BadMessage, DeviceFault, OutOfMemory}
+use Rattle.wire_protocol.specs.Grammar.{spell_request, spell_reply, IsRequest}
+
+-- two requests at the front of the same bytes are one request, and the same bytes follow
+abbrev pub RequestsAreApart : Type 0
+RequestsAreApart = (one other : Request) (behind_one behind_other : List ℕ) → IsRequest one → IsRequest other → spell_request one ++ behind_one ≡ spell_request other ++ behind_other → (one ≡ other) × (behind_one ≡ behind_other)
+
+-- the numbers of a reply fit their fields
+abbrev pub IsReply : Reply → Type 0
+IsReply (Done number) = number < 2 ^ 64
+IsReply (Value front value) = (front < 2 ^ 64) × IsValueLength (length value)
+IsReply (Absent front) = front < 2 ^ 64
+IsReply Bye = Unit {0}
+IsReply (BadMessage at code) = at < 2 ^ 64
+IsReply (DeviceFault device) = Unit {0}
+IsReply OutOfMemory = Unit {0}
+
+-- two replies at the front of the same bytes are one reply, and the same bytes follow
+abbrev pub RepliesAreApart : Type 0
+RepliesAreApart = (one other : Reply) (behind_one behind_other : List ℕ) → IsReply one → IsReply other → spell_reply one ++ behind_one ≡ spell_reply other ++ behind_other → (one ≡ other) × (behind_one ≡ behind_other)

@@ -1,0 +1,56 @@
+-- The one spelling of each request and reply.
+use Rattle.std.specs.Prelude.{ℕ, List, [], ◌∷◌, ◌++◌, length}
+use Rattle.std.specs.List.{flat_map}
+use Rattle.std.specs.Int.{w16, w32, w64, to_be_bytes}
+use Rattle.rdb_base.specs.Lengths.{IsKeyLength, IsValueLength}
+use Rattle.rdb_base.specs.declared.row.Row.{Row}
+use Rattle.history_core.specs.declared.request.Request.{Request}
+use Rattle.history_core.specs.declared.request.Request.TheVariants.{Put, Get, Quit}
+use Rattle.history_core.specs.declared.reply.Reply.{Reply}
+use Rattle.history_core.specs.declared.reply.Reply.TheVariants as replies
+
+abbrev pub key_field : List ℕ → List ℕ
+key_field key = to_be_bytes w16 (length key) ++ key
+
+abbrev pub value_field : List ℕ → List ℕ
+value_field value = to_be_bytes w32 (length value) ++ value
+
+abbrev pub row_field : Row → List ℕ
+row_field row = key_field row.key ++ value_field row.value
+
+abbrev pub request_body : Request → List ℕ
+request_body (Put row) = 0x01 ∷ row_field row
+request_body (Get key) = 0x03 ∷ key_field key
+request_body Quit = 0x09 ∷ []
+
+abbrev pub reply_body : Reply → List ℕ
+reply_body (replies.Done number) = 0x81 ∷ to_be_bytes w64 number
+reply_body (replies.Value front value) = 0x82 ∷ (to_be_bytes w64 front ++ value_field value)
+reply_body (replies.Absent front) = 0x83 ∷ to_be_bytes w64 front
+reply_body replies.Bye = 0x89 ∷ []
+reply_body (replies.BadMessage at code) = 0xE1 ∷ (to_be_bytes w64 at ++ code ∷ [])
+reply_body (replies.DeviceFault device) = 0xE4 ∷ device ∷ []
+reply_body replies.OutOfMemory = 0xE5 ∷ []
+
+-- a body behind its length
+abbrev pub message : List ℕ → List ℕ
+message body = to_be_bytes w32 (length body) ++ body
+
+abbrev pub spell_request : Request → List ℕ
+spell_request request = message (request_body request)
+
+abbrev pub spell_reply : Reply → List ℕ
+spell_reply reply = message (reply_body reply)
+
+-- a list is spelled one after another
+abbrev pub spell_requests : List Request → List ℕ
+spell_requests requests = flat_map spell_request requests
+
+abbrev pub spell_replies : List Reply → List ℕ
+spell_replies replies = flat_map spell_reply replies
+
+-- what has a spelling
+abbrev pub IsRequest : Request → Type 0
+IsRequest (Put row) = IsKeyLength (length row.key) × IsValueLength (length row.value)
+IsRequest (Get key) = IsKeyLength (length key)
+IsRequest Quit = Unit {0}

@@ -1,0 +1,29 @@
+-- What a decoder holds of a message, and what it still lacks.
+use Rattle.std.specs.Prelude.{ℕ, ◌+◌, ◌-◌, ◌≤◌, ◌<◌, ◌^◌, List, length, take, nat_lt, ◌==◌, ◌||◌, Bool, if◌then◌else◌}
+use Rattle.std.specs.Int.{w32, from_be_bytes}
+use Rattle.wire_protocol.specs.declared.limits.TheConstants.{BODY_MAX, MESSAGE_MAX}
+
+-- the bytes held of one message, and where in the input it begins
+pub record Held : Type 0 where
+  pub at : ℕ
+  pub bytes : List ℕ
+
+abbrev pub body_length : List ℕ → ℕ
+body_length bytes = from_be_bytes w32 (take 4 bytes)
+
+abbrev pub is_refused_length : ℕ → Bool
+is_refused_length n = (n == 0) || nat_lt BODY_MAX n
+
+-- how many bytes the length, or else the body, still lacks; a refused length lacks none
+abbrev pub wanted : List ℕ → ℕ
+wanted bytes = if nat_lt (length bytes) 4 then 4 - length bytes else if is_refused_length (body_length bytes) then 0 else 4 + body_length bytes - length bytes
+
+-- no more than one message
+abbrev pub IsWithin : List ℕ → Type 0
+IsWithin bytes = 4 < length bytes → (1 ≤ body_length bytes) × (body_length bytes ≤ BODY_MAX) × (length bytes ≤ 4 + body_length bytes)
+
+-- what a decoder keeps
+pub record IsHeld (at : ℕ) (bytes : List ℕ) (capacity : ℕ) : Type 0 where
+  pub within : IsWithin bytes
+  pub room : MESSAGE_MAX ≤ capacity
+  pub place : at + length bytes ≤ 2 ^ 63
