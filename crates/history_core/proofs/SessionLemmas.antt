@@ -9,7 +9,7 @@ use Rattle.rdb_base.specs.Histories.{History, IsEntry, after, end}
 use Rattle.history_core.specs.declared.request.Request.{Request}
 use Rattle.history_core.specs.declared.request.Request.TheVariants.{Put, Get, Quit}
 use Rattle.history_core.specs.declared.reply.Reply.{Reply}
-use Rattle.history_core.specs.declared.reply.Reply.TheVariants.{Done, Value, Absent, Bye, OutOfMemory}
+use Rattle.history_core.specs.declared.reply.Reply.TheVariants.{Done, Value, Absent, Bye, DeviceFault, OutOfMemory}
 use Rattle.history_core.specs.Sessions.{SessionState, Replays, ReplaysAll, put_entry}
 use Rattle.history_core.specs.Laws.{grown}
 
@@ -35,6 +35,7 @@ Replays-grown history more state (Get key) (Value front value) next r =
 Replays-grown history more state (Get key) (Absent front) next r =
     (r.0, end-grown history more front r.1, ap (λ (rows : List Row). value_at rows key) (after-grown history more front r.1) ∙ r.2, r.3)
 Replays-grown history more state Quit Bye next r = r
+Replays-grown history more state (Put row) (DeviceFault device) next r = r
 Replays-grown history more state (Put row) OutOfMemory next r = r
 Replays-grown history more state (Get key) OutOfMemory next r = r
 Replays-grown history more state request reply next r = absurd r
@@ -58,6 +59,7 @@ least-step history state (Put row) (Done number) next r = omega (arith, r.0, ap 
 least-step history state (Get key) (Value front value) next r = omega (arith, r.0, ap (λ (s : SessionState). s.least) r.3)
 least-step history state (Get key) (Absent front) next r = omega (arith, r.0, ap (λ (s : SessionState). s.least) r.3)
 least-step history state Quit Bye next r = omega (arith, ap (λ (s : SessionState). s.least) r)
+least-step history state (Put row) (DeviceFault device) next r = omega (arith, ap (λ (s : SessionState). s.least) r.1)
 least-step history state (Put row) OutOfMemory next r = omega (arith, ap (λ (s : SessionState). s.least) r)
 least-step history state (Get key) OutOfMemory next r = omega (arith, ap (λ (s : SessionState). s.least) r)
 least-step history state request reply next r = absurd r

@@ -6,10 +6,11 @@ use Rattle.rdb_base.specs.declared.entry.Entry.{Entry}
 use Rattle.rdb_base.specs.declared.change.Change.TheVariants as changes
 use Rattle.rdb_base.specs.Maps.{value_at}
 use Rattle.rdb_base.specs.Histories.{History, IsEntry, AreNumbered, after, end}
+use Rattle.history_core.specs.declared.limits.TheConstants.{DEVICE_MAX}
 use Rattle.history_core.specs.declared.request.Request.{Request}
 use Rattle.history_core.specs.declared.request.Request.TheVariants.{Put, Get, Quit}
 use Rattle.history_core.specs.declared.reply.Reply.{Reply}
-use Rattle.history_core.specs.declared.reply.Reply.TheVariants.{Done, Value, Absent, Bye, OutOfMemory}
+use Rattle.history_core.specs.declared.reply.Reply.TheVariants.{Done, Value, Absent, Bye, DeviceFault, OutOfMemory}
 
 -- whose session it is, the ordinal of its next update, and the least number that it may still name
 pub record SessionState : Type 0 where
@@ -37,6 +38,8 @@ Replays history state (Put row) (Done number) next = (state.least ≤ number) ×
 Replays history state (Get key) (Value front value) next = (state.least ≤ front) × (front ≤ end history) × (value_at (after history front) key ≡ Some value) × (next ≡ looked_at state front)
 Replays history state (Get key) (Absent front) next = (state.least ≤ front) × (front ≤ end history) × (value_at (after history front) key ≡ None) × (next ≡ looked_at state front)
 Replays history state Quit Bye next = next ≡ state
+-- a device that failed changes nothing
+Replays history state (Put row) (DeviceFault device) next = (device ≤ DEVICE_MAX) × (next ≡ state)
 -- want of memory changes nothing
 Replays history state (Put row) OutOfMemory next = next ≡ state
 Replays history state (Get key) OutOfMemory next = next ≡ state

@@ -11,8 +11,10 @@
 #![tactic(auto)]
 
 pub mod laws;
+mod limits;
 mod reply;
 mod request;
 
+pub use limits::DEVICE_MAX;
 pub use reply::Reply;
 pub use request::Request;

@@ -1,0 +1,87 @@
+ghost use Rattle.std.specs.Prelude.{◌≡◌};
+
+use crate::bytes::{read_from, write_over};
+use crate::{DeviceError, Strip};
+use std::alloc::Global;
+use std::marker::Model;
+
+/// A strip in memory that never fails. It tells its content and no crash images, and keeps nothing of its past.
+/// No unit is ever drawn from its book. Contracts see its device and its bytes.
+#[derive(Drop)]
+pub struct SteadyStrip {
+    device: u8,
+    bytes: Vec<u8>,
+}
+
+impl Model for SteadyStrip {
+    ghost use Rattle.disk_model.specs.Books.{BookName};
+    ghost use Rattle.disk_model.specs.SteadyState.{SteadyState};
+
+    ghost Value = { SteadyState };
+
+    ghost view = { λ s. record { book = record { device = s.device }; bytes = s.bytes.items } };
+}
+
+impl SteadyStrip {
+    ghost use Rattle.std.specs.Prelude.{[]};
+
+    /// An empty strip.
+    pub fn new(alloc: Global, device: u8) -> SteadyStrip
+        ensures device { result.book.device ≡ device }
+        ensures empty { result.bytes ≡ [] }
+    {
+        SteadyStrip {
+            device,
+            bytes: Vec::new(alloc),
+        }
+    }
+}
+
+impl Strip for SteadyStrip {
+    ghost use Rattle.std.specs.Prelude.{true, false};
+
+    ghost book = { λ s. s.book };
+
+    ghost count = { λ s. 0 };
+
+    ghost calls = { λ s. 0 };
+
+    ghost tells = { λ s. true };
+
+    ghost content = { λ s. s.bytes };
+
+    ghost tells_images = { λ s. false };
+
+    ghost may_leave = { λ s c. ⊥ };
+
+    ghost moment = { λ s. 0 };
+
+    ghost left_since = { λ s t c. ⊥ };
+
+    ghost own_image = { λ s told images. Prim.cc };
+
+    ghost counts_now = { λ s t c le none. none };
+
+    ghost only_now = { λ s c none. none };
+
+    fn len(&mut self, _alloc: Global) -> Result<u64, DeviceError> {
+        Ok(self.bytes.len() as u64)
+    }
+
+    fn read(&mut self, _alloc: Global, at: u64, into: &mut [u8]) -> Result<usize, DeviceError> {
+        Ok(read_from(&self.bytes, at, into))
+    }
+
+    fn write_at(&mut self, _alloc: Global, at: u64, bytes: &[u8]) -> Result<(), DeviceError> {
+        Ok(write_over(&mut self.bytes, at as usize, bytes)?)
+    }
+
+    fn cut(&mut self, _alloc: Global, at: u64) -> Result<(), DeviceError> {
+        self.bytes.truncate(at as usize);
+        Ok(())
+    }
+
+    fn sync(&mut self, _alloc: Global) -> Result<(), DeviceError> {
+        Ok(())
+    }
+}

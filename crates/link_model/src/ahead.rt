@@ -1,0 +1,77 @@
+//! Bytes that were read before they were asked for.
+ghost use Rattle.std.specs.Prelude.{◌≡◌, ◌==◌, [], min, take, drop, length, Ok, Err, OnOk, OnErr, IfOk};
+ghost use Rattle.std.specs.Io.KnownBytes.{Consumes, IsAtEnd, Keeps};
+
+use crate::failed::Failed;
+use crate::filling::copy_front;
+use crate::patience::read_some;
+use std::alloc::{AllocError, Global};
+use std::io::Read;
+use std::marker::Model;
+
+/// How many bytes are read ahead at most: a pipe gives as many at once.
+const READ_AHEAD: usize = 65_536;
+
+/// Bytes that were read and not yet handed out: those of the buffer from `at` to `end`.
+#[derive(Drop)]
+pub(crate) struct Ahead {
+    buffer: Vec<u8>,
+    at: usize,
+    end: usize,
+}
+
+impl Model for Ahead {
+    ghost use Rattle.std.specs.Prelude.{ℕ, ◌-◌, ◌<◌, ◌≤◌, List, take, drop, vec_len};
+
+    ghost Value = { List ℕ };
+
+    ghost view = { λ a. take (a.end - a.at) (drop a.at a.buffer.items) };
+
+    ghost invariant = { λ a. (a.at ≤ a.end) × (a.end ≤ vec_len a.buffer) × (0 < vec_len a.buffer) };
+}
+
+impl Ahead {
+    pub(crate) fn new(alloc: Global) -> Result<Ahead, AllocError>
+        ensures { IfOk result (λ a. a ≡ []) }
+    {
+        let buffer = Vec::from_elem(alloc, 0, READ_AHEAD)?;
+        Ok(Ahead {
+            buffer,
+            at: 0,
+            end: 0,
+        })
+    }
+
+    pub(crate) fn is_empty(&self) -> bool
+        ensures { result ≡ (length self.now == 0) }
+    {
+        self.at == self.end
+    }
+
+    /// Reads once, where nothing is left of what was read before. Nothing comes at the end alone.
+    pub(crate) fn fill<R: Read>(&mut self, reader: &mut R) -> Result<(), Failed>
+        requires { self.old ≡ [] }
+        ensures read { OnOk result (Consumes (R.remaining reader.old) (R.remaining reader.new) self.new) }
+        ensures end { OnOk result (self.new ≡ [] → IsAtEnd (R.remaining reader.new)) }
+        ensures kept { OnErr result (Keeps (R.remaining reader.old) (R.remaining reader.new)) }
+        ensures empty { OnErr result (self.new ≡ []) }
+    {
+        let count = read_some(reader, &mut self.buffer)?;
+        self.at = 0;
+        self.end = count;
+        Ok(())
+    }
+
+    /// Hands out as many bytes from the front as there are and as there is room for.
+    pub(crate) fn hand_out(&mut self, into: &mut [u8]) -> usize
+        ensures count { result ≡ min (length into.old) (length self.old) }
+        ensures front { take result into.new ≡ take result self.old }
+        ensures rest { self.new ≡ drop result self.old }
+    {
+        let (read, _) = self.buffer.as_slice().split_at(self.end);
+        let (_, left) = read.split_at(self.at);
+        let count = copy_front(left, into);
+        self.at += count;
+        count
+    }
+}

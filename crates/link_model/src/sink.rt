@@ -1,0 +1,21 @@
+//! Where bytes go to.
+ghost use Rattle.std.specs.Prelude.{ℕ, List, Option};
+ghost use Rattle.link_model.specs.Faults.{HasCause};
+ghost use Rattle.link_model.specs.Streams.{PutsFront};
+
+use crate::failed::Failed;
+
+/// Where bytes go to.
+pub trait Sink {
+    /// The bytes that it took, where it tells them.
+    ghost written: { Self → Option (List ℕ) };
+
+    /// How often it failed. The count stands still at 2^64 - 1.
+    ghost faults: { Self → ℕ };
+
+    /// Puts the whole piece behind what it took, or fails behind a front of it. An empty piece is
+    /// allowed: a sink that gathers passes on what it holds at that call.
+    fn put(&mut self, piece: &[u8]) -> Result<(), Failed>
+        ensures bytes { PutsFront (written self.old) (written self.new) result piece.now }
+        ensures cause { HasCause (faults self.old) (faults self.new) result };
+}

@@ -1,0 +1,53 @@
+//! A sink over a writer of the system.
+ghost use Rattle.std.specs.Prelude.{◌≡◌, None};
+
+use crate::failed::Failed;
+use crate::outgoing::Outgoing;
+use crate::sink::Sink;
+use std::cell::RefCell;
+use std::io::Write;
+use std::rc::Rc;
+
+/// A sink over a writer, made by `joined`. It gathers what is put, up to 65,536 bytes, and passes
+/// that on when the next piece does not fit behind it, at a put of an empty piece, and before its
+/// source waits for input. What is still held when both are let go is lost, so the last put is of
+/// an empty piece.
+///
+/// Its bytes are not told. Its count of faults stands still at 2^64 - 1.
+#[derive(Drop)]
+pub struct WriterSink<W> {
+    pub(crate) outgoing: Rc<RefCell<Outgoing<W>>>,
+    pub(crate) faults: u64,
+}
+
+impl<W> WriterSink<W> {
+    /// How often `put` failed.
+    pub fn faults(&self) -> u64
+        ensures { result ≡ self.now.faults }
+    {
+        self.faults
+    }
+}
+
+impl<W: Write + Drop> WriterSink<W> {
+    fn put_gathered(&self, piece: &[u8]) -> Result<(), Failed> {
+        match self.outgoing.try_borrow_mut() {
+            Ok(mut outgoing) => outgoing.put(piece),
+            Err(_) => Err(Failed),
+        }
+    }
+}
+
+impl<W: Write + Drop> Sink for WriterSink<W> {
+    ghost written = { λ _. None };
+
+    ghost faults = { λ k. k.faults };
+
+    fn put(&mut self, piece: &[u8]) -> Result<(), Failed> {
+        let done = self.put_gathered(piece);
+        if done.is_err() {
+            self.faults = self.faults.saturating_add(1);
+        }
+        done
+    }
+}

@@ -1,0 +1,5 @@
+pub mod MapSessions
+pub mod Counting
+pub mod Exchanges
+pub mod TurnEnds
+pub mod Conversing

@@ -1,0 +1,24 @@
+use Rattle.std.proofs.Common.{◌≡◌, ◌-◌, ◌≤◌, []}
+use Rattle.session_core.specs.declared.filling.TheConstants.{SESSION_MAX}
+use Rattle.session_core.specs.Telling.{AreOf, AreAtMost}
+use Rattle.session_core.specs.Conversations.{SoFar, scene_of}
+use Rattle.session_core.proofs.session.run_session.Given as goal
+
+abbrev pub invariant-messages : goal.invariant-messages
+invariant-messages g l = record {
+  empty : l.rooms.decoder.bytes ≡ [];
+  below : l.rooms.decoder.at ≤ SESSION_MAX;
+  number : (g.A.Answers.map l.pass).number ≤ l.rooms.decoder.at;
+  replies : l.replies ≤ l.rooms.decoder.at;
+  few : AreAtMost l.rooms.decoder.at l.faults;
+  books : AreOf g.A.Answers.books l.faults;
+  source : g.R.Source.faults l.source ≡ g.R.Source.faults l.fn.source;
+  sink : g.W.Sink.faults l.sink ≡ g.W.Sink.faults l.fn.sink;
+  so_far : SoFar 0
+      (scene_of (g.R.Source.left l.fn.source) (g.W.Sink.written l.fn.sink) (g.A.Answers.map l.fn.pass) (g.A.Answers.counts l.fn.pass) [])
+      (scene_of (g.R.Source.left l.source) (g.W.Sink.written l.sink) (g.A.Answers.map l.pass) (g.A.Answers.counts l.pass) l.faults)
+      l.rooms.decoder.at l.replies;
+}
+
+abbrev pub decreases-messages : goal.decreases-messages
+decreases-messages g l = SESSION_MAX - l.rooms.decoder.at

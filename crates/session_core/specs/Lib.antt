@@ -1,0 +1,6 @@
+pub mod Machines
+pub mod Answering
+pub mod Telling
+pub mod Conversations
+pub mod Turns
+pub mod Laws

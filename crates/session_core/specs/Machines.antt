@@ -1,0 +1,38 @@
+-- A plain ordered map that answers requests, one after the other.
+use Rattle.std.specs.Prelude.{◌≡◌, ℕ, ◌+◌, ◌≤◌, List, [], ◌∷◌, Some, None}
+use Rattle.rdb_base.specs.declared.row.Row.{Row}
+use Rattle.rdb_base.specs.declared.change.Change.TheVariants as changes
+use Rattle.rdb_base.specs.Maps.{changed, value_at}
+use Rattle.history_core.specs.declared.limits.TheConstants.{DEVICE_MAX}
+use Rattle.history_core.specs.declared.request.Request.{Request}
+use Rattle.history_core.specs.declared.request.Request.TheVariants.{Put, Get, Quit}
+use Rattle.history_core.specs.declared.reply.Reply.{Reply}
+use Rattle.history_core.specs.declared.reply.Reply.TheVariants.{Done, Value, Absent, Bye, DeviceFault, OutOfMemory}
+
+-- a map, and the number of its next update
+pub record MapState : Type 0 where
+  pub rows : List Row
+  pub number : ℕ
+
+-- the map after a put
+abbrev pub put_in : MapState → List ℕ → List ℕ → MapState
+put_in map key value = record { rows = changed map.rows key (changes.Put value); number = map.number + 1 }
+
+-- the map answers the request so, and is the next one then
+abbrev pub Answer : MapState → Request → Reply → MapState → Type 0
+Answer map (Put row) (Done number) next = (number ≡ map.number) × (next ≡ put_in map row.key row.value)
+Answer map (Put row) (DeviceFault device) next = (device ≤ DEVICE_MAX) × (next ≡ map)
+Answer map (Put row) OutOfMemory next = next ≡ map
+Answer map (Get key) (Value front value) next = (front ≡ map.number) × (value_at map.rows key ≡ Some value) × (next ≡ map)
+Answer map (Get key) (Absent front) next = (front ≡ map.number) × (value_at map.rows key ≡ None) × (next ≡ map)
+Answer map (Get key) OutOfMemory next = next ≡ map
+Answer map Quit Bye next = next ≡ map
+-- no other reply is given
+Answer map request reply next = ⊥
+
+-- the same of requests and their replies, one after the other
+abbrev pub AnswersAll : MapState → List Request → List Reply → MapState → Type 0
+AnswersAll map [] [] next = next ≡ map
+AnswersAll map (request ∷ requests) (reply ∷ replies) next = (between : MapState) × Answer map request reply between × AnswersAll between requests replies next
+AnswersAll map [] (reply ∷ replies) next = ⊥
+AnswersAll map (request ∷ requests) [] next = ⊥

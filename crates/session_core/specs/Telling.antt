@@ -1,0 +1,50 @@
+-- The failures of devices that replies tell.
+use Rattle.std.specs.Prelude.{◌≡◌, ℕ, ◌+◌, ◌-◌, ◌^◌, ◌≤◌, ◌==◌, min, List, [], ◌∷◌, Option, IfSome, if◌then◌else◌}
+use Rattle.disk_model.specs.Books.{BookName}
+use Rattle.disk_model.specs.Piles.{Units, number_at, book_at}
+use Rattle.history_core.specs.declared.request.Request.{Request}
+use Rattle.history_core.specs.declared.reply.Reply.{Reply}
+use Rattle.history_core.specs.declared.reply.Reply.TheVariants.{Done, Value, Absent, Bye, BadMessage, DeviceFault, OutOfMemory}
+use Rattle.session_core.specs.Machines.{MapState, Answer}
+
+-- how many failures of this device the reply tells
+abbrev pub told_by : ℕ → Reply → ℕ
+told_by device (DeviceFault failed) = if failed == device then 1 else 0
+told_by device (Done number) = 0
+told_by device (Value front value) = 0
+told_by device (Absent front) = 0
+told_by device Bye = 0
+told_by device (BadMessage at code) = 0
+told_by device OutOfMemory = 0
+
+-- how many the replies tell
+abbrev pub told_by_all : ℕ → List Reply → ℕ
+told_by_all device [] = 0
+told_by_all device (reply ∷ replies) = told_by device reply + told_by_all device replies
+
+-- Counts after so many failures of each device were told: each rose at least as often, or stands at its last value, and
+-- none moved of which nothing was told.
+pub record CountsRose (before now told : ℕ → ℕ) : Type 0 where
+  pub later : (device : ℕ) → before device ≤ now device
+  pub each : (device : ℕ) → min (before device + told device) (2 ^ 64 - 1) ≤ now device
+  pub kept : (device : ℕ) → told device ≡ 0 → now device ≡ before device
+
+-- these units are of the books of their devices
+abbrev pub AreOf : (ℕ → BookName) → List (Option Units) → Type 0
+AreOf books units = (device : ℕ) → IfSome (book_at units device) (λ book. book ≡ books device)
+
+-- where a store stands in a session: its map, its devices' counts of failures, and the units that the session keeps of them
+pub record StoreState : Type 0 where
+  pub map : MapState
+  pub counts : ℕ → ℕ
+  pub units : List (Option Units)
+
+-- a request was answered by the map, and the failure that its reply may tell was counted and kept
+pub record Answered (old new : StoreState) (request : Request) (reply : Reply) : Type 0 where
+  pub answer : Answer old.map request reply new.map
+  pub counts : CountsRose old.counts new.counts (λ device. told_by device reply)
+  pub units : (device : ℕ) → number_at new.units device ≡ number_at old.units device + told_by device reply
+
+-- no device has more units than this
+abbrev pub AreAtMost : ℕ → List (Option Units) → Type 0
+AreAtMost most units = (device : ℕ) → number_at units device ≤ most

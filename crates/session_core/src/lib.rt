@@ -1,0 +1,32 @@
+//! One session: requests are taken from a source, answered by a store, and their replies put to a sink.
+//!
+//! Stands for   a conversation: the requests that came, the replies that were put, and the map then
+//!              (`specs/Conversations.antt`, `SessionEnds`)
+//! Promises     each request gets one reply, in order, that a plain ordered map gives (`specs/Machines.antt`); these
+//!              are replies over one history; a session ends by a named cause, and a refused message gets its place
+//!              and code; a failure of a device is told with a unit of that device's book
+//! Goes in      a store that `Answers`, a source and a sink
+//! Comes out    how the session ended, how many replies were decided, and the units of failures
+//! Stands on    wire_protocol, link_model, disk_model
+//! Used by      remixdb
+//! Leaves open  that a source gives more bytes, that a sink takes them
+#![tactic(auto)]
+
+mod answers;
+mod deciding;
+mod filling;
+mod found;
+pub mod laws;
+mod rooms;
+mod session;
+mod session_end;
+mod session_out;
+mod update_error;
+
+pub use answers::Answers;
+pub use filling::SESSION_MAX;
+pub use found::Found;
+pub use session::run_session;
+pub use session_end::SessionEnd;
+pub use session_out::SessionOut;
+pub use update_error::UpdateError;
