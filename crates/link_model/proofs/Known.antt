@@ -1,17 +1,10 @@
--- Bytes on their way from a reader and to a writer, where they are known. The lemmas to know are `given-passed` and `given-grown`.
-use Rattle.std.proofs.Common.{◌≡◌, ℕ, ◌+◌, ◌<◌, ◌≤◌, min, List, [], ◌++◌, length, take, drop, Option, None, Some, Result, Ok, Err, sym, ap, ◌∙◌, append_assoc, append-nil, arith}
-use Rattle.std.proofs.lemmas.List.{take-append-drop, drop-drop, drop_all, drop-append-le, length-drop, nil_from_length, take_all}
+-- Bytes on their way from a reader and to a writer, where they are known. The lemmas to know are `given-through` and `handed_out`.
+use Rattle.std.proofs.Common.{◌≡◌, ℕ, ◌+◌, ◌<◌, min, List, [], ◌++◌, length, take, drop, Option, None, Some, Result, Ok, Err, sym, ap, ◌∙◌, append-nil, arith}
+use Rattle.std.proofs.lemmas.List.{take-append-drop, length-drop, nil_from_length, take_all}
 use Rattle.std.proofs.Math.Seq.{take-add}
 use Rattle.std.specs.Io.KnownBytes.{Keeps, Appends, Consumes, append_known, prepend_known, IsAtEnd}
-use Rattle.std.proofs.KnownBytes.{Appends-trans, append_known-moved, append_known-kept, prepend_known-read}
+use Rattle.std.proofs.KnownBytes.{Appends-trans, prepend_known-read}
 use Rattle.link_model.specs.Gathered.{given, Gives}
-
--- what stayed, and then lost a front
-pub Keeps-Consumes : (a b c : Option (List ℕ)) (bs : List ℕ) → Keeps a b → Consumes b c bs → Consumes a c bs
-Keeps-Consumes None b c bs p q = tt
-Keeps-Consumes (Some x) None c bs p q = absurd p
-Keeps-Consumes (Some x) (Some y) None bs p q = absurd q
-Keeps-Consumes (Some x) (Some y) (Some z) bs p q = sym p ∙ q
 
 -- what grew by bs, and then stayed
 pub Appends-Keeps : (a b c : Option (List ℕ)) (bs : List ℕ) → Appends a b bs → Keeps b c → Appends a c bs
@@ -20,50 +13,25 @@ Appends-Keeps (Some x) None c bs p q = absurd p
 Appends-Keeps (Some x) (Some y) None bs p q = absurd q
 Appends-Keeps (Some x) (Some y) (Some z) bs p q = q ∙ p
 
--- what stayed, and then grew by bs
-pub Keeps-Appends : (a b c : Option (List ℕ)) (bs : List ℕ) → Keeps a b → Appends b c bs → Appends a c bs
-Keeps-Appends None b c bs p q = tt
-Keeps-Appends (Some x) None c bs p q = absurd p
-Keeps-Appends (Some x) (Some y) None bs p q = absurd q
-Keeps-Appends (Some x) (Some y) (Some z) bs p q = q ∙ ap (λ (l : List ℕ). l ++ bs) p
-
 -- n bytes more of what comes behind the first i
 pub Appends-more : (a b c : Option (List ℕ)) (bytes : List ℕ) (i n : ℕ) → Appends a b (take i bytes) → Appends b c (take n (drop i bytes)) → Appends a c (take (i + n) bytes)
 Appends-more a b c bytes i n p q = rw (take-add i n bytes) (Appends-trans a b c (take i bytes) (take n (drop i bytes)) p q)
 
--- what was given stays as it is where the writer gets the next n bytes of what was held
-pub given-passed : (a b : Option (List ℕ)) (p n : ℕ) (held : List ℕ) → Appends a b (take n (drop p held)) → Keeps (given a p held) (given b (p + n) held)
-given-passed a b p n held h =
-    append_known-moved a b (take n (drop p held)) (drop (p + n) held) (drop p held) h (sym (take-append-drop n (drop p held)) ∙ ap (λ (l : List ℕ). take n (drop p held) ++ l) (drop-drop n p held))
-
--- what was given stays as it is where all that was held was passed on
-pub given-emptied : (b c : Option (List ℕ)) (q : ℕ) (held : List ℕ) → length held ≤ q → Keeps b c → Keeps (given b q held) (given c 0 [])
-given-emptied b c q held h p = rw (drop_all q held h) (append_known-kept b c [] p)
-
--- a writer that gets bytes while nothing is held
+-- a writer that gets bytes, with nothing behind them
 through : (a b : Option (List ℕ)) (bs : List ℕ) → Appends a b bs → Appends (append_known a []) (append_known b []) bs
 through None b bs q = tt
 through (Some x) None bs q = absurd q
 through (Some x) (Some y) bs q = append-nil y ∙ q ∙ ap (λ (l : List ℕ). l ++ bs) (sym (append-nil x))
 
+-- a writer that gets bytes while nothing is held
 pub given-through : (a b : Option (List ℕ)) (p : ℕ) (held bs : List ℕ) → held ≡ [] → Appends a b bs → Appends (given a p held) (given b p held) bs
 given-through a b p held bs none h =
     rw (nil_from_length (drop p held) (omega (arith, length-drop p held, ap length none))) (through a b bs h)
-
--- bytes that are held behind those that were held
-pub given-grown : (a : Option (List ℕ)) (p : ℕ) (held bs : List ℕ) → p ≤ length held → Appends (given a p held) (given a p (held ++ bs)) bs
-given-grown None p held bs h = tt
-given-grown (Some x) p held bs h = ap (λ (l : List ℕ). x ++ l) (drop-append-le p held bs h) ∙ sym (append_assoc x (drop p held) bs)
 
 -- where the whole piece was given, each answer says so
 pub Gives-all : {T E : Type 0} (old new : Option (List ℕ)) (r : Result T E) (piece : List ℕ) → Appends old new piece → Gives old new r piece
 Gives-all old new (Ok done) piece h = h
 Gives-all old new (Err e) piece h = (length piece, omega arith, rw (take_all (length piece) piece (omega arith)) h)
-
--- what stayed is what was given before
-pub Gives-kept : {T E : Type 0} (a b c : Option (List ℕ)) (r : Result T E) (piece : List ℕ) → Keeps a b → Gives b c r piece → Gives a c r piece
-Gives-kept a b c (Ok done) piece k h = Keeps-Appends a b c piece k h
-Gives-kept a b c (Err e) piece k (n, most, h) = (n, most, Keeps-Appends a b c (take n piece) k h)
 
 -- a reader whose bytes were read ahead loses the front that is handed out, and none only at its end
 pub handed_out : (a b : Option (List ℕ)) (ahead into new : List ℕ) (n room : ℕ) → Keeps a (prepend_known ahead b) → n ≡ min room (length ahead) → take n into ≡ take n ahead → new ≡ drop n ahead

@@ -35,3 +35,6 @@ pub use source::Source;
 pub use steady_sink::SteadySink;
 pub use steady_source::SteadySource;
 pub use writer_sink::WriterSink;
+
+#[cfg(test)]
+mod tests;

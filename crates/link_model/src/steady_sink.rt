@@ -1,5 +1,5 @@
 //! A sink in memory that fails only where its room is passed.
-ghost use Rattle.std.specs.Prelude.{◌≡◌, [], Some, Ok, Err, IfOk, OnOk, OnErr};
+ghost use Rattle.std.specs.Prelude.{◌≡◌, ◌≤◌, [], length, Some, Ok, Err, IfOk, OnOk, OnErr};
 ghost use Rattle.link_model.specs.Calls.{SteadyPutAnswer};
 ghost use Rattle.link_model.specs.Faults.{HasCause};
 ghost use Rattle.link_model.specs.Streams.{PutsFront};
@@ -42,9 +42,10 @@ impl SteadySink {
         })
     }
 
-    /// The bytes that it took.
+    /// The bytes that it took, never more than its room.
     pub fn as_bytes(&self) -> &[u8]
-        ensures { result.now ≡ self.now.bytes }
+        ensures bytes { result.now ≡ self.now.bytes }
+        ensures within { length self.now.bytes ≤ self.now.room }
     {
         self.bytes.as_slice()
     }

@@ -1,0 +1,6 @@
+#![tactic(auto)]
+mod ordered_map;
+mod word;
+
+fn main() {
+}
