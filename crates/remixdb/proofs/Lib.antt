@@ -1,1 +1,4 @@
 pub mod RowLemmas
+pub mod Rising
+pub mod WellFormed
+pub mod Scripting

@@ -1,6 +1,56 @@
+//! RemixDB: an ordered key-value store. One session from standard input to standard output.
+//!
+//! Stands for   `remixdb(words, host) -> status` (`src/top.rt`)
+//! Promises     the bytes put are the replies that one ordered map gives to the requests that came; each status has
+//!              its cause (`specs/Scripts.antt`)
+//! Goes in      the words of a command line, and a host: a source, a sink, a place for notes
+//! Comes out    a status, and a line for each status but 0
+//! Stands on    session_core, wire_protocol, link_model
+//! Used by      people and programs
+//! Leaves open  what the standard streams hold
 #![tactic(auto)]
+
+mod command;
+mod host;
+mod lending;
+mod map_answers;
+mod memory_host;
 mod ordered_map;
+mod outcome;
+mod script;
+mod system_host;
+mod top;
 mod word;
 
-fn main() {
+use crate::system_host::SystemHost;
+use crate::top::remixdb;
+use crate::word::Word;
+use std::env;
+use std::process::ExitCode;
+
+/// The words after the program's name. None is told where the system gives none or one is no text.
+fn words_of(rt: &HostRuntime) -> Option<Vec<Word>> {
+    let mut words = Vec::new(rt.alloc());
+    let Ok(args) = env::args(rt) else {
+        return None;
+    };
+    for arg in args.skip(1) {
+        let Ok(word) = Word::try_new(rt.alloc(), arg.as_str()) else {
+            return None;
+        };
+        if words.push(word).is_err() {
+            return None;
+        }
+    }
+    Some(words)
+}
+
+fn main(rt: HostRuntime) -> ExitCode {
+    let Some(words) = words_of(&rt) else {
+        return ExitCode::from(2);
+    };
+    let Ok(mut host) = SystemHost::new(rt.alloc(), rt.stdin(), rt.stdout(), rt.stderr()) else {
+        return ExitCode::from(6);
+    };
+    ExitCode::from(remixdb(rt.alloc(), &words, &mut host))
 }

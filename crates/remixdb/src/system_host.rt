@@ -1,0 +1,58 @@
+ghost use Rattle.std.specs.Prelude.{◌≡◌, None, IfOk};
+ghost use Rattle.remixdb.specs.Lent.{lent_of};
+
+use crate::host::Host;
+use crate::lending::Lending;
+use link_model::{ReaderSource, WriterSink, joined};
+use rdb_base::NoMemory;
+use std::alloc::Global;
+use std::io::{Stderr, Stdin, Stdout, Write};
+
+/// The host of a process: its standard streams, which tell nothing, and standard error for its notes.
+#[derive(Drop)]
+pub struct SystemHost {
+    streams: Lending<ReaderSource<Stdin, Stdout>, WriterSink<Stdout>>,
+    notes: Stderr,
+}
+
+impl SystemHost {
+    /// A host over these standard streams.
+    pub fn new(alloc: Global, stdin: Stdin, stdout: Stdout, stderr: Stderr) -> Result<SystemHost, NoMemory>
+        ensures home { IfOk result (λ host. lent_of host.streams.pair host.streams.source_faults host.streams.sink_faults ≡ None) }
+    {
+        let (source, sink) = joined(alloc, stdin, stdout)?;
+        Ok(SystemHost {
+            streams: Lending::new(source, sink, 0, 0),
+            notes: stderr,
+        })
+    }
+}
+
+impl Host for SystemHost {
+    type In = ReaderSource<Stdin, Stdout>;
+
+    type Out = WriterSink<Stdout>;
+
+    ghost input = { λ _. None };
+
+    ghost output = { λ _. None };
+
+    ghost lent = { λ h. lent_of h.streams.pair h.streams.source_faults h.streams.sink_faults };
+
+    ghost stream_faults = { λ h. h.streams.faults };
+
+    fn streams(&mut self) -> (ReaderSource<Stdin, Stdout>, WriterSink<Stdout>) {
+        self.streams.lend()
+    }
+
+    fn give_streams(&mut self, source: ReaderSource<Stdin, Stdout>, sink: WriterSink<Stdout>) {
+        let source_faults = source.faults();
+        let sink_faults = sink.faults();
+        self.streams
+            .take_back(source, sink, source_faults, sink_faults);
+    }
+
+    fn note(&mut self, line: &[u8]) {
+        let _ = self.notes.write_all(line);
+    }
+}
