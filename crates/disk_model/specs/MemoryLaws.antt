@@ -5,7 +5,7 @@ use Rattle.std.proofs.lemmas.List.{take_all, take_at, drop_at, take_min}
 use Rattle.std.proofs.lemmas.Bool.Decides.{nat_tests}
 use Rattle.disk_model.specs.Strips.{Torn, Cut}
 use Rattle.disk_model.specs.Events.{written, content_after, IsImageAfter, replayed, IsImage}
-use Rattle.disk_model.specs.MemoryState.{MemoryState, content_of, MayLeaveAt, MayLeave, LeftSince}
+use Rattle.disk_model.specs.MemoryState.{MemoryState, content_of, MayLeave, LeftSince}
 use Rattle.disk_model.specs.declared.strip_event.StripEvent.{StripEvent}
 use Rattle.disk_model.specs.declared.strip_event.StripEvent.TheVariants.{Written, WriteFailed, CutTo, CutFailed, Synced}
 

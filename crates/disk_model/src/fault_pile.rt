@@ -1,4 +1,4 @@
-ghost use Rattle.std.specs.Prelude.{◌≡◌, ◌≢◌, ℕ, ◌<◌, ◌≤◌, ◌↔◌, Some, IsTrue, IfSome, MatchOption, length};
+ghost use Rattle.std.specs.Prelude.{◌≡◌, ◌≢◌, ℕ, ◌<◌, ◌≤◌, ◌↔◌, Some, None, IsTrue, IfSome, MatchOption, length};
 ghost use Rattle.disk_model.specs.Books.{one_more};
 ghost use Rattle.disk_model.specs.Piles.{sum_of, units_at, number_at, book_at, Agree, either, joined};
 
@@ -51,7 +51,8 @@ impl FaultPile {
     /// The units of both. A sum that passes 2^64 - 1 stands there.
     pub fn merge(&mut self, other: FaultPile)
         requires { (d : ℕ) → Agree (book_at self.old d) (book_at other d) }
-        ensures numbers { (d : ℕ) → number_at self.new d ≡ sum_of (number_at self.old d) (number_at other d) }
+        ensures numbers { (d : ℕ) →
+            number_at self.new d ≡ sum_of (number_at self.old d) (number_at other d) }
         ensures books { (d : ℕ) → book_at self.new d ≡ either (book_at self.old d) (book_at other d) }
     {
         let mut other = other;
@@ -77,8 +78,8 @@ impl FaultPile {
 
     /// The lowest number of a device of which there are units.
     pub fn least_device(&self) -> Option<u8>
-        ensures { MatchOption result ((d : ℕ) → number_at self.now d ≡ 0)
-            (λ least. (0 < number_at self.now least) × ((d : ℕ) → d < least → number_at self.now d ≡ 0)) }
+        ensures { MatchOption result ((d : ℕ) → number_at self.now d ≡ 0) (λ least.
+            (0 < number_at self.now least) × ((d : ℕ) → d < least → number_at self.now d ≡ 0)) }
     {
         for device in 0..LAST_DEVICE + 1 {
             if self.units[device as usize].is_some() {
@@ -105,7 +106,8 @@ fn join_at(slot: &mut Option<JoinedUnits>, units: Option<JoinedUnits>)
 fn join_each(slots: &mut [Option<JoinedUnits>], others: &mut [Option<JoinedUnits>])
     requires length { length slots.old ≡ length others.old }
     requires books { (d : ℕ) → Agree (book_at slots.old d) (book_at others.old d) }
-    ensures { (d : ℕ) → units_at slots.new d ≡ joined (units_at slots.old d) (units_at others.old d) }
+    ensures { (d : ℕ) →
+        units_at slots.new d ≡ joined (units_at slots.old d) (units_at others.old d) }
 {
     for device in 0..slots.len() {
         join_at(&mut slots[device], others[device].take());

@@ -8,11 +8,12 @@ use std::alloc::Global;
 
 /// A file of bytes. Places and lengths count bytes.
 ///
-/// Until a sync, a crash may leave any bytes in a range that was written, and any length between those before and
-/// after a cut. A call that fails leaves what such an unsynced call may leave. Each call may answer `Memory` at any
-/// time.
+/// Until a sync, a crash may leave any bytes in a range that was written, and any length between
+/// those before and after a cut. A call that fails leaves what such an unsynced call may leave.
+/// Each call may answer `Memory` at any time, and `Fault` only with a unit of the strip's own book.
 ///
-/// A strip need not tell its content or its crash images, as a real file cannot. Nothing is then claimed of them.
+/// A strip need not tell its content or its crash images, as a real file cannot. Nothing is then
+/// claimed of them.
 pub trait Strip {
     /// The book of its failures.
     ghost book: { Self → BookName };
@@ -38,67 +39,84 @@ pub trait Strip {
     /// The moment, as a number that does not fall.
     ghost moment: { Self → ℕ };
 
-    /// What a crash at some moment from that one on might have left, during a call or between two.
+    /// What a crash at some moment from that one on might have left, in a call or between two.
     ghost left_since: { Self → ℕ → List ℕ → Type 0 };
 
     /// Its length, which is below 2^63.
     fn len(&mut self, alloc: Global) -> Result<u64, DeviceError>
-        ensures length { IfOk result (λ len. IfTold (tells self.old) (len ≡ length (content self.old))) }
+        ensures length { IfOk result (λ len. IfTold (tells self.old)
+            (len ≡ length (content self.old))) }
         ensures short { IfOk result (λ len. len < 2 ^ 63) }
         ensures content { IfTold (tells self.old) (content self.new ≡ content self.old) }
         ensures images { Narrows (may_leave self.old) (may_leave self.new) }
-        ensures time { Elapses (moment self.old) (moment self.new) (left_since self.old) (left_since self.new) (may_leave self.new) }
+        ensures time { Elapses (moment self.old) (moment self.new)
+            (left_since self.old) (left_since self.new) (may_leave self.new) }
         ensures book { book self.new ≡ book self.old }
-        ensures told { (tells self.new ≡ tells self.old) × (tells_images self.new ≡ tells_images self.old) }
+        ensures told { (tells self.new ≡ tells self.old)
+            × (tells_images self.new ≡ tells_images self.old) }
         ensures calls { calls self.new ≤ calls self.old + 1 }
         ensures cause { HasCause (book self.old) (count self.old) (count self.new) result };
 
-    /// Fills `into` from place `at`, and answers with how many bytes. Fewer than `into` has come only at the end,
-    /// and past the end none.
+    /// Fills `into` from place `at`, and answers with how many bytes. Fewer than `into` has come
+    /// only at the end, and past the end none.
     fn read(&mut self, alloc: Global, at: u64, into: &mut [u8]) -> Result<usize, DeviceError>
-        ensures filled { IfOk result (λ count. IfTold (tells self.old) (Fills (content self.old) at count into.old into.new)) }
+        ensures filled { IfOk result (λ count. IfTold (tells self.old)
+            (Fills (content self.old) at count into.old into.new)) }
         ensures fits { IfOk result (λ count. count ≤ length into.old) }
         ensures content { IfTold (tells self.old) (content self.new ≡ content self.old) }
         ensures images { Narrows (may_leave self.old) (may_leave self.new) }
-        ensures time { Elapses (moment self.old) (moment self.new) (left_since self.old) (left_since self.new) (may_leave self.new) }
+        ensures time { Elapses (moment self.old) (moment self.new)
+            (left_since self.old) (left_since self.new) (may_leave self.new) }
         ensures book { book self.new ≡ book self.old }
-        ensures told { (tells self.new ≡ tells self.old) × (tells_images self.new ≡ tells_images self.old) }
+        ensures told { (tells self.new ≡ tells self.old)
+            × (tells_images self.new ≡ tells_images self.old) }
         ensures calls { calls self.new ≤ calls self.old + 1 }
         ensures cause { HasCause (book self.old) (count self.old) (count self.new) result };
 
     /// Writes `bytes` from place `at` on, over what is there and past the end.
     fn write_at(&mut self, alloc: Global, at: u64, bytes: &[u8]) -> Result<(), DeviceError>
         requires { IfTold (tells self.old) (at ≤ length (content self.old)) }
-        ensures written { OnOk result (IfTold (tells self.old) (Holds (content self.old) at bytes.now (content self.new))) }
-        ensures refused { OnErr result (IfTold (tells self.old) (Torn at (length bytes.now) (content self.old) (content self.new))) }
+        ensures written { OnOk result (IfTold (tells self.old)
+            (Holds (content self.old) at bytes.now (content self.new))) }
+        ensures refused { OnErr result (IfTold (tells self.old)
+            (Torn at (length bytes.now) (content self.old) (content self.new))) }
         ensures short { OnOk result (at + length bytes.now < 2 ^ 63) }
         ensures images { Follows (Torn at (length bytes.now)) (may_leave self.old) (may_leave self.new) }
-        ensures time { Elapses (moment self.old) (moment self.new) (left_since self.old) (left_since self.new) (may_leave self.new) }
+        ensures time { Elapses (moment self.old) (moment self.new)
+            (left_since self.old) (left_since self.new) (may_leave self.new) }
         ensures book { book self.new ≡ book self.old }
-        ensures told { (tells self.new ≡ tells self.old) × (tells_images self.new ≡ tells_images self.old) }
+        ensures told { (tells self.new ≡ tells self.old)
+            × (tells_images self.new ≡ tells_images self.old) }
         ensures calls { calls self.new ≤ calls self.old + 1 }
         ensures cause { HasCause (book self.old) (count self.old) (count self.new) result };
 
     /// Leaves the first `at` bytes.
     fn cut(&mut self, alloc: Global, at: u64) -> Result<(), DeviceError>
         requires { IfTold (tells self.old) (at ≤ length (content self.old)) }
-        ensures cut { OnOk result (IfTold (tells self.old) (content self.new ≡ take at (content self.old))) }
-        ensures refused { OnErr result (IfTold (tells self.old) (Cut at (content self.old) (content self.new))) }
+        ensures cut { OnOk result (IfTold (tells self.old)
+            (content self.new ≡ take at (content self.old))) }
+        ensures refused { OnErr result (IfTold (tells self.old)
+            (Cut at (content self.old) (content self.new))) }
         ensures images { Follows (Cut at) (may_leave self.old) (may_leave self.new) }
-        ensures time { Elapses (moment self.old) (moment self.new) (left_since self.old) (left_since self.new) (may_leave self.new) }
+        ensures time { Elapses (moment self.old) (moment self.new)
+            (left_since self.old) (left_since self.new) (may_leave self.new) }
         ensures book { book self.new ≡ book self.old }
-        ensures told { (tells self.new ≡ tells self.old) × (tells_images self.new ≡ tells_images self.old) }
+        ensures told { (tells self.new ≡ tells self.old)
+            × (tells_images self.new ≡ tells_images self.old) }
         ensures calls { calls self.new ≤ calls self.old + 1 }
         ensures cause { HasCause (book self.old) (count self.old) (count self.new) result };
 
     /// After it, a crash leaves what a read gives.
     fn sync(&mut self, alloc: Global) -> Result<(), DeviceError>
-        ensures durable { OnOk result (IfTold (tells self.old) (Only (content self.old) (may_leave self.new))) }
+        ensures durable { OnOk result (IfTold (tells self.old)
+            (Only (content self.old) (may_leave self.new))) }
         ensures content { IfTold (tells self.old) (content self.new ≡ content self.old) }
         ensures images { Narrows (may_leave self.old) (may_leave self.new) }
-        ensures time { Elapses (moment self.old) (moment self.new) (left_since self.old) (left_since self.new) (may_leave self.new) }
+        ensures time { Elapses (moment self.old) (moment self.new)
+            (left_since self.old) (left_since self.new) (may_leave self.new) }
         ensures book { book self.new ≡ book self.old }
-        ensures told { (tells self.new ≡ tells self.old) × (tells_images self.new ≡ tells_images self.old) }
+        ensures told { (tells self.new ≡ tells self.old)
+            × (tells_images self.new ≡ tells_images self.old) }
         ensures calls { calls self.new ≤ calls self.old + 1 }
         ensures cause { HasCause (book self.old) (count self.old) (count self.new) result };
 

@@ -1,4 +1,5 @@
--- What a plain map answers are the replies of a session over the history of its own updates. To know: `map_gives_session`.
+-- What a plain map answers are the replies of a session over the history of its own updates. To know: `map_gives_session`,
+-- `log-accepted`.
 use Rattle.std.proofs.Common.{◌≡◌, ℕ, ◌+◌, ◌-◌, List, [], ◌∷◌, ◌++◌, length, Option, Some, None, refl, sym, ap, subst, ◌∙◌, append_assoc, arith}
 use Rattle.std.specs.Prelude.{slice_get}
 use Rattle.std.specs.List.{AllByRecursion}
@@ -16,7 +17,9 @@ use Rattle.history_core.specs.declared.reply.Reply.{Reply}
 use Rattle.history_core.specs.declared.reply.Reply.TheVariants.{Done, Value, Absent, Bye, DeviceFault, OutOfMemory}
 use Rattle.history_core.specs.Sessions.{SessionState, Replays, ReplaysAll, IsSession, begun, put_entry}
 use Rattle.history_core.proofs.SessionLemmas.{ReplaysAll-grown, ReplaysAll-last}
-use Rattle.session_core.specs.Machines.{MapState, Answer, AnswersAll, put_in}
+use Rattle.std.specs.Io.KnownBytes.{append_known}
+use Rattle.wire_protocol.specs.Grammar.{spell_request, spell_requests}
+use Rattle.session_core.specs.Machines.{MapState, Answer, AnswersAll, put_in, accepted}
 
 slice_get-last : (entries : List Entry) (entry : Entry) → slice_get (entries ++ entry ∷ []) (length entries) ≡ Some entry
 slice_get-last [] entry = refl
@@ -123,3 +126,35 @@ pub map_gives_session : (map next : MapState) (requests : List Request) (replies
 map_gives_session map next requests replies h =
     let s = stands_all map map next [] [] requests replies (stands_first map) h in
     record { entries = s.entries; last = stand map (length s.entries); callers = s.callers; numbered = s.numbered; all = refl; replays = s.replays }
+
+-- ---- the log
+
+append_known-nil : (known : Option (List ℕ)) → append_known known [] ≡ known
+append_known-nil None = refl
+append_known-nil (Some bytes) = ap (λ (t : List ℕ). Some t) (append-nil bytes)
+
+append_known-twice : (known : Option (List ℕ)) (a b : List ℕ) → append_known (append_known known a) b ≡ append_known known (a ++ b)
+append_known-twice None a b = refl
+append_known-twice (Some bytes) a b = ap (λ (t : List ℕ). Some t) (append_assoc bytes a b)
+
+log-same : (map between : MapState) (known : Option (List ℕ)) (bytes : List ℕ) → between ≡ map → known ≡ append_known between.log bytes → known ≡ append_known map.log bytes
+log-same map between known bytes e k = k ∙ ap (λ (m : MapState). append_known m.log bytes) e
+
+-- the log has what was accepted
+pub log-accepted : (map next : MapState) (requests : List Request) (replies : List Reply) → AnswersAll map requests replies next → next.log ≡ append_known map.log (spell_requests (accepted requests replies))
+log-accepted map next [] [] h = ap (λ (m : MapState). m.log) h ∙ sym (append_known-nil map.log)
+log-accepted map next (q ∷ qs) (r ∷ rs) h = by_reply q r h.1 (log-accepted h.0 next qs rs h.2)
+  where
+    by_reply : (q : Request) (r : Reply) → Answer map q r h.0 → next.log ≡ append_known h.0.log (spell_requests (accepted qs rs)) → next.log ≡ append_known map.log (spell_requests (accepted (q ∷ qs) (r ∷ rs)))
+    by_reply (Put row) (Done number) a rest =
+        rest ∙ ap (λ (m : MapState). append_known m.log (spell_requests (accepted qs rs))) a.1
+        ∙ append_known-twice map.log (spell_request (Put row)) (spell_requests (accepted qs rs))
+    by_reply (Put row) (DeviceFault device) a rest = log-same map h.0 next.log (spell_requests (accepted qs rs)) a.1 rest
+    by_reply (Put row) OutOfMemory a rest = log-same map h.0 next.log (spell_requests (accepted qs rs)) a rest
+    by_reply (Get key) (Value front value) a rest = log-same map h.0 next.log (spell_requests (accepted qs rs)) a.2 rest
+    by_reply (Get key) (Absent front) a rest = log-same map h.0 next.log (spell_requests (accepted qs rs)) a.2 rest
+    by_reply (Get key) OutOfMemory a rest = log-same map h.0 next.log (spell_requests (accepted qs rs)) a rest
+    by_reply Quit Bye a rest = log-same map h.0 next.log (spell_requests (accepted qs rs)) a rest
+    by_reply q r a rest = absurd a
+log-accepted map next [] (r ∷ rs) h = absurd h
+log-accepted map next (q ∷ qs) [] h = absurd h

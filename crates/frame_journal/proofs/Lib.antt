@@ -1,0 +1,4 @@
+pub mod FrameLemmas
+pub mod JournalLemmas
+pub mod OpeningLemmas
+pub mod PhaseLemmas

@@ -1,0 +1,34 @@
+use Rattle.std.proofs.Common.{arith, ◌≡◌, ◌<◌, sym, subst, refl, ℕ}
+use Rattle.frame_journal.specs.declared.phase.Phase.{Phase}
+use Rattle.frame_journal.specs.Frames.{IsClosedAt}
+use Rattle.frame_journal.specs.Journals.{HoldsIn, StagedIn, IsSound}
+use Rattle.frame_journal.proofs.PhaseLemmas.{ready-stands}
+use Rattle.frame_journal.proofs.journal.Journal.begin_clear.Goals as goal
+use Rattle.frame_journal.proofs.journal.Journal.begin_clear.Goals.{then-self-eq0, else-self-eq0}
+
+pub invariant_of-self : goal.invariant_of-self
+invariant_of-self g c =
+    let old = c.self.invariant in
+    let inside = c.self.inside in
+    let bytes = g.S.Strip.content inside.strip in
+    let staged = subst (λ (p : Phase). StagedIn p inside.staged.items) c.in-Ready.is old.stages in
+    elim c.if-self-eq0.branch [
+      | then-self-eq0 w ↦
+          let zero : inside.end ≡ 0 = w.if-self-eq0.true in
+          subst (λ (p : Phase). IsSound (g.S.Strip.tells inside.strip) bytes p 0 inside.staged.items) (sym w.self-is)
+          (record {
+            below = omega (arith, old.below);
+            begins = λ _. refl;
+            stages = staged;
+            holds = λ told. subst (λ (n : ℕ). IsClosedAt bytes n) zero (subst (λ (p : Phase). HoldsIn p bytes inside.end inside.staged.items) c.in-Ready.is (old.holds told)).1;
+          })
+      | else-self-eq0 w ↦
+          let some : 0 < inside.end = omega (arith, w.if-self-eq0.false) in
+          subst (λ (p : Phase). IsSound (g.S.Strip.tells inside.strip) bytes p 0 inside.staged.items) (sym w.self-is)
+          (record {
+            below = omega (arith, old.below);
+            begins = λ _. refl;
+            stages = staged;
+            holds = λ told. let ends = subst (λ (p : Phase). HoldsIn p bytes inside.end inside.staged.items) c.in-Ready.is (old.holds told) in ready-stands bytes inside.end ends.0 ends.1 some;
+          })
+    ]

@@ -1,0 +1,29 @@
+-- What calls of a strip leave of it, however many they are.
+use Rattle.std.specs.Prelude.{◌≡◌, ℕ, ◌+◌, ◌≤◌, List, Result, OnOk}
+use Rattle.disk_model.specs.declared.device_error.DeviceError.{DeviceError}
+use Rattle.disk_model.specs.declared.strip.Strip.{Ghosts}
+use Rattle.disk_model.specs.Causes.{HasCause}
+use Rattle.disk_model.specs.Strips.{IfTold, Only}
+
+-- it is the same strip, of which at most so many calls were made
+pub record SameStrip {S : Type 0} (strip : Ghosts S) (most : ℕ) (old new : S) : Type 0 where
+  pub book : strip.book new ≡ strip.book old
+  pub tells : strip.tells new ≡ strip.tells old
+  pub tells_images : strip.tells_images new ≡ strip.tells_images old
+  pub calls : strip.calls new ≤ strip.calls old + most
+
+-- an answer has its cause in the strip's book: each fault is a unit of it, drawn by these calls, and nothing else was
+abbrev pub CauseIn : {S T : Type 0} → Ghosts S → S → S → Result T DeviceError → Type 0
+CauseIn strip old new result = HasCause (strip.book old) (strip.count old) (strip.count new) result
+
+-- this holds of a strip's bytes, where it tells them
+abbrev pub OfBytes : {S : Type 0} → Ghosts S → S → (List ℕ → Type 0) → Type 0
+OfBytes strip s P = IfTold (strip.tells s) (P (strip.content s))
+
+-- a crash leaves what a read gives, where the strip tells it
+abbrev pub IsSynced : {S : Type 0} → Ghosts S → S → Type 0
+IsSynced strip s = IfTold (strip.tells s) (Only (strip.content s) (strip.may_leave s))
+
+-- the bytes stay, where the strip tells them
+abbrev pub KeepsBytes : {S : Type 0} → Ghosts S → S → S → Type 0
+KeepsBytes strip old new = OfBytes strip new (λ bytes. bytes ≡ strip.content old)

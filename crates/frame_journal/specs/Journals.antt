@@ -1,0 +1,101 @@
+-- What a journal keeps of its strip's bytes, phase by phase.
+use Rattle.std.specs.Prelude.{◌≡◌, ◌⊎◌, ℕ, ◌+◌, ◌-◌, ◌^◌, ◌<◌, ◌≤◌, Bool, false, List, [], ◌∷◌, ◌++◌, length, take, drop}
+use Rattle.std.specs.Int.{w32, to_be_bytes}
+use Rattle.disk_model.specs.declared.strip.Strip.{Ghosts}
+use Rattle.disk_model.specs.Strips.{IfTold}
+use Rattle.frame_journal.specs.Devices.{OfBytes}
+use Rattle.frame_journal.specs.declared.format.TheConstants.{OPEN_GATE, CLOSED_GATE, PAYLOAD_MAX}
+use Rattle.frame_journal.specs.declared.phase.Phase.{Phase}
+use Rattle.frame_journal.specs.declared.phase.Phase.TheVariants.{Fresh, Shut, Ready, Staged, Body, Gate}
+use Rattle.frame_journal.specs.FrameValue.{FrameValue}
+use Rattle.frame_journal.specs.Frames.{frames_of, end_of, IsClosedAt, StandsFor}
+use Rattle.frame_journal.specs.JournalState.{JournalState, ready_in, staged_frame}
+
+-- what stands behind a frame's gate: the payload's length, the payload, and a closed gate
+unfoldable pub framed : List ℕ → List ℕ
+framed payload = to_be_bytes w32 (length payload) ++ payload ++ CLOSED_GATE ∷ []
+
+-- the payload in that
+abbrev pub unframed : List ℕ → List ℕ
+unframed staged = take (length staged - 5) (drop 4 staged)
+
+-- a payload in range is framed there
+pub record IsFramed (staged : List ℕ) : Type 0 where
+  pub same : staged ≡ framed (unframed staged)
+  pub some : 1 ≤ length (unframed staged)
+  pub most : length (unframed staged) ≤ PAYLOAD_MAX
+
+-- the frames that stand before this end: those that there are where a closed gate stands at it
+abbrev pub standing_to : ℕ → List ℕ → List FrameValue
+standing_to end bytes = frames_of (take end bytes ++ CLOSED_GATE ∷ [])
+
+-- the frames that stand in a journal's strip, without the staged one
+abbrev pub standing : {S : Type 0} → Ghosts S → JournalState S → List FrameValue
+standing strip journal = standing_to journal.end (strip.content journal.strip)
+
+-- those and the staged one
+abbrev pub with_staged : {S : Type 0} → Ghosts S → JournalState S → List FrameValue
+with_staged strip journal = standing strip journal ++ staged_frame journal ∷ []
+
+-- where the strip tells its bytes, these frames stand in the journal
+abbrev pub HasStanding : {S : Type 0} → Ghosts S → JournalState S → List FrameValue → Type 0
+HasStanding strip journal frames = OfBytes strip journal.strip (λ bytes. standing_to journal.end bytes ≡ frames)
+
+-- these bytes with an open gate at place 0
+abbrev pub opened : List ℕ → List ℕ
+opened bytes = OPEN_GATE ∷ drop 1 bytes
+
+-- the frames that stand, or stood before a clear began to close the gate at place 0
+abbrev pub covered : List ℕ → List FrameValue
+covered bytes = frames_of (opened bytes)
+
+-- whole frames end there, and a byte follows
+pub record EndsAt (bytes : List ℕ) (end : ℕ) : Type 0 where
+  pub inside : end < length bytes
+  pub whole : end_of (standing_to end bytes) ≡ end
+
+-- these are staged behind the gate at that place
+pub record IsWrittenAt (bytes : List ℕ) (end : ℕ) (staged : List ℕ) : Type 0 where
+  pub written : take (length staged) (drop (end + 1) bytes) ≡ staged
+
+-- what a phase knows of the bytes
+abbrev pub HoldsIn : Phase → List ℕ → ℕ → List ℕ → Type 0
+HoldsIn Fresh bytes end staged = StandsFor (covered bytes) (opened bytes)
+HoldsIn Shut bytes end staged = IsClosedAt bytes 0
+HoldsIn Ready bytes end staged = EndsAt bytes end × IsClosedAt bytes end
+HoldsIn Staged bytes end staged = EndsAt bytes end × IsClosedAt bytes end
+HoldsIn Body bytes end staged = EndsAt bytes end × IsClosedAt bytes end
+HoldsIn Gate bytes end staged = EndsAt bytes end × IsWrittenAt bytes end staged
+
+-- what a phase has staged
+abbrev pub StagedIn : Phase → List ℕ → Type 0
+StagedIn Fresh staged = staged ≡ []
+StagedIn Shut staged = staged ≡ []
+StagedIn Ready staged = staged ≡ []
+StagedIn Staged staged = IsFramed staged
+StagedIn Body staged = IsFramed staged
+StagedIn Gate staged = IsFramed staged
+
+-- a journal's numbers are sound, and so is what they say of the strip's bytes, where it tells them
+pub record IsSound (told : Bool) (bytes : List ℕ) (phase : Phase) (end : ℕ) (staged : List ℕ) : Type 0 where
+  pub below : end + length staged ≤ 2 ^ 63
+  pub begins : ready_in phase ≡ false → end ≡ 0
+  pub stages : StagedIn phase staged
+  pub holds : IfTold told (HoldsIn phase bytes end staged)
+
+-- the bytes stand for no frame, or for these
+abbrev pub StandsForNoneOr : List FrameValue → List ℕ → Type 0
+StandsForNoneOr frames bytes = StandsFor [] bytes ⊎ StandsFor frames bytes
+
+-- the bytes stand for these frames, with that one behind them or without
+abbrev pub StandsWithOr : List FrameValue → FrameValue → List ℕ → Type 0
+StandsWithOr frames frame bytes = StandsFor frames bytes ⊎ StandsFor (frames ++ frame ∷ []) bytes
+
+-- the bytes stand for a journal's frames, with the staged one or without
+abbrev pub StandsWithOrWithout : {S : Type 0} → Ghosts S → JournalState S → List ℕ → Type 0
+StandsWithOrWithout strip journal bytes = StandsWithOr (standing strip journal) (staged_frame journal) bytes
+
+-- the bytes are one closed gate
+pub record IsEmptied (bytes : List ℕ) : Type 0 where
+  pub one : length bytes ≡ 1
+  pub closed : IsClosedAt bytes 0

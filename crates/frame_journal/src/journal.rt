@@ -1,0 +1,312 @@
+//! The journal: what it promises before and after each call.
+ghost use Rattle.std.specs.Prelude.{◌≡◌, ◌+◌, ◌<◌, ◌≤◌, ◌↔◌, ◌^◌, ℕ, true, false, nat_lt, [], ◌∷◌, ◌++◌, length, take, IsTrue, is_ok, is_err, Ok, IfOk, OnOk, OnErr, IfErr, if◌then◌else◌};
+ghost use Rattle.frame_journal.specs.Devices.{SameStrip, CauseIn, OfBytes, KeepsBytes, IsSynced};
+ghost use Rattle.frame_journal.specs.Frames.{StandsFor, HasNoTorn, frame_size, end_of};
+ghost use Rattle.frame_journal.specs.JournalState.{is_ready, has_staged, is_in_doubt, is_written, closes_gate, staged_frame};
+ghost use Rattle.frame_journal.specs.Journals.{standing, with_staged, HasStanding, covered, IsEmptied, StandsForNoneOr, StandsWithOrWithout};
+ghost use Rattle.frame_journal.specs.Causes.{OpeningCause};
+ghost use Rattle.frame_journal.specs.Openings.{TellsTorn, strip_of};
+ghost use Rattle.frame_journal.specs.declared.phase.Phase.TheVariants.{Fresh, Shut, Ready, Staged, Body, Gate};
+
+use crate::format::{CLOSED_GATE, END_MAX, FRAMING, OPEN_GATE, PAYLOAD_MAX};
+use crate::framing::framed;
+use crate::opening::{Found, found_on};
+use crate::phase::Phase;
+use crate::{Frame, JournalError};
+use disk_model::{DeviceError, Strip};
+use std::alloc::{AllocError, Global};
+use std::marker::Model;
+
+/// A strip that stands for a list of frames.
+#[derive(Drop)]
+pub struct Journal<S: Strip> {
+    strip: S,
+    phase: Phase,
+    // The place of the next gate, and what is to be written behind it.
+    end: u64,
+    staged: Vec<u8>,
+}
+
+impl<S: Strip> Model for Journal<S> {
+    ghost use Rattle.frame_journal.specs.JournalState.{JournalState};
+    ghost use Rattle.frame_journal.specs.Journals.{IsSound, unframed};
+
+    ghost Value = { JournalState S };
+
+    ghost view = { λ j. record { strip = j.strip; phase = j.phase; end = j.end; payload = unframed j.staged.items } };
+
+    ghost invariant = { λ j. IsSound (S.tells j.strip) (S.content j.strip) j.phase j.end j.staged.items };
+}
+
+impl<S: Strip> Journal<S> {
+    /// Opens a strip as a journal: syncs it, reads it once, and writes nothing. The frames come in order. A strip without
+    /// a frame opens, too, and is not ready until a clear answered Ok.
+    pub fn open(alloc: Global, mut strip: S) -> Result<(Journal<S>, Vec<Frame>), (S, JournalError)>
+        // What the strip stands for, and how far the journal has come.
+        ensures frames { IfOk result (λ found. OfBytes S.Strip strip (StandsFor found.1.items)) }
+        ensures standing { IfOk result (λ found. HasStanding S.Strip found.0 found.1.items) }
+        ensures end { IfOk result (λ found. found.0.end ≡ end_of found.1.items) }
+        ensures ready { IfOk result (λ found. is_ready found.0 ≡ nat_lt 0 (length found.1.items)) }
+        ensures idle { IfOk result (λ found. (has_staged found.0 ≡ false) × (is_in_doubt found.0 ≡ false)) }
+
+        // A torn header is told exactly where one is; an open journal has none.
+        ensures torn { IfErr result (λ refused. OfBytes S.Strip strip (TellsTorn refused.1)) }
+        ensures whole { OnOk result (OfBytes S.Strip strip HasNoTorn) }
+
+        // The strip is given back as it was, synced.
+        ensures strip { SameStrip S.Strip 3 strip (strip_of result) }
+        ensures content { KeepsBytes S.Strip strip (strip_of result) }
+        ensures synced { OnOk result (IsSynced S.Strip (strip_of result)) }
+        ensures cause { IfErr result (λ refused. OpeningCause (S.book strip) (S.count strip) (S.count refused.0) refused.1) }
+        ensures kept { IfOk result (λ found. S.count found.0.strip ≡ S.count strip) }
+    {
+        match found_on(alloc, &mut strip) {
+            Ok(found) => {
+                let Found { frames, phase, end } = found;
+                let staged = Vec::new(alloc);
+                let journal = Journal {
+                    strip,
+                    phase,
+                    end,
+                    staged,
+                };
+                Ok((journal, frames))
+            }
+            Err(error) => Err((strip, error)),
+        }
+    }
+
+    /// Whether a frame was found or a clear has answered Ok.
+    pub fn ready(&self) -> bool
+        ensures { result ≡ is_ready self.now }
+    {
+        !matches!(self.phase, Phase::Fresh | Phase::Shut)
+    }
+
+    /// Whether a settle of the staged frame was refused.
+    pub fn in_doubt(&self) -> bool
+        ensures { result ≡ is_in_doubt self.now }
+    {
+        matches!(self.phase, Phase::Body | Phase::Gate)
+    }
+
+    /// Whether a frame is staged that does not surely stand yet.
+    pub fn has_staged(&self) -> bool
+        ensures { result ≡ has_staged self.now }
+    {
+        matches!(self.phase, Phase::Staged | Phase::Body | Phase::Gate)
+    }
+
+    /// The place of the next gate, in bytes from the strip's start.
+    pub fn end(&self) -> u64
+        ensures { result ≡ self.now.end }
+    {
+        self.end
+    }
+
+    /// Makes the journal empty and ready, by at most four device calls. After a refusal it is not ready, and the next
+    /// clear goes on from the phase that failed.
+    pub fn clear(&mut self, alloc: Global) -> Result<(), DeviceError>
+        requires { has_staged self.old ≡ false }
+
+        // At Ok one byte is left, a closed gate: 00, or the byte that was found there.
+        ensures emptied { OnOk result (OfBytes S.Strip self.new.strip IsEmptied) }
+        ensures stands { OnOk result (OfBytes S.Strip self.new.strip (StandsFor [])) }
+        ensures written { closes_gate self.old ≡ true → OnOk result (OfBytes S.Strip self.new.strip (λ bytes. bytes ≡ CLOSED_GATE ∷ [])) }
+        ensures synced { OnOk result (IsSynced S.Strip self.new.strip) }
+        ensures ready { is_ready self.new ≡ is_ok result }
+        ensures end { self.new.end ≡ 0 }
+        ensures standing { HasStanding S.Strip self.new [] }
+        ensures idle { has_staged self.new ≡ false }
+
+        // It leaves no frame, or those from before the first clear that was refused.
+        ensures either { OfBytes S.Strip self.new.strip (StandsForNoneOr (covered (S.content self.old.strip))) }
+        ensures goes_on { OnErr result (closes_gate self.new ≡ true → closes_gate self.old ≡ true) }
+        ensures first { OnErr result (closes_gate self.new ≡ true → S.calls self.new.strip ≤ S.calls self.old.strip + 2) }
+        ensures same { OnErr result (closes_gate self.new ≡ true → OfBytes S.Strip self.new.strip (λ bytes. covered bytes ≡ covered (S.content self.old.strip))) }
+
+        ensures strip { SameStrip S.Strip 4 self.old.strip self.new.strip }
+        ensures second { closes_gate self.old ≡ false → S.calls self.new.strip ≤ S.calls self.old.strip + 2 }
+        ensures cause { CauseIn S.Strip self.old.strip self.new.strip result }
+    {
+        self.begin_clear();
+        if let Phase::Fresh = self.phase {
+            self.close_first_gate(alloc)?;
+        }
+        self.cut_behind_gate(alloc)
+    }
+
+    // From here on the journal is not ready.
+    fn begin_clear(&mut self)
+        requires { has_staged self.old ≡ false }
+        ensures strip { self.new.strip ≡ self.old.strip }
+        ensures phase { self.new.phase ≡ (if closes_gate self.old then Fresh else Shut) }
+        ensures end { self.new.end ≡ 0 }
+        ensures payload { self.new.payload ≡ [] }
+    {
+        if let Phase::Ready = self.phase {
+            // With no frame, the gate at place 0 is closed and synced: a write there could open an old frame again.
+            self.phase = if self.end == 0 {
+                Phase::Shut
+            } else {
+                Phase::Fresh
+            };
+            self.end = 0;
+        }
+    }
+
+    // The first phase of a clear: no frame stands behind a closed gate.
+    fn close_first_gate(&mut self, alloc: Global) -> Result<(), DeviceError>
+        requires { self.old.phase ≡ Fresh }
+
+        ensures closed { OnOk result (self.new.phase ≡ Shut) }
+        ensures gate { OnOk result (OfBytes S.Strip self.new.strip (λ bytes. take 1 bytes ≡ CLOSED_GATE ∷ [])) }
+        ensures again { OnErr result (self.new.phase ≡ Fresh) }
+        ensures same { OnErr result (OfBytes S.Strip self.new.strip (λ bytes. covered bytes ≡ covered (S.content self.old.strip))) }
+        ensures end { self.new.end ≡ 0 }
+        ensures either { OfBytes S.Strip self.new.strip (StandsForNoneOr (covered (S.content self.old.strip))) }
+
+        ensures strip { SameStrip S.Strip 2 self.old.strip self.new.strip }
+        ensures cause { CauseIn S.Strip self.old.strip self.new.strip result }
+    {
+        self.strip.write_at(alloc, 0, &[CLOSED_GATE])?;
+        self.strip.sync(alloc)?;
+        self.phase = Phase::Shut;
+        Ok(())
+    }
+
+    // The second phase of a clear: what is behind the closed gate is gone.
+    fn cut_behind_gate(&mut self, alloc: Global) -> Result<(), DeviceError>
+        requires { self.old.phase ≡ Shut }
+
+        ensures ready { OnOk result (self.new.phase ≡ Ready) }
+        ensures again { OnErr result (self.new.phase ≡ Shut) }
+        ensures end { self.new.end ≡ 0 }
+        ensures emptied { OnOk result (OfBytes S.Strip self.new.strip IsEmptied) }
+        ensures cut { OnOk result (OfBytes S.Strip self.new.strip (λ bytes. bytes ≡ take 1 (S.content self.old.strip))) }
+        ensures synced { OnOk result (IsSynced S.Strip self.new.strip) }
+        ensures none { OfBytes S.Strip self.new.strip (StandsFor []) }
+
+        ensures strip { SameStrip S.Strip 2 self.old.strip self.new.strip }
+        ensures cause { CauseIn S.Strip self.old.strip self.new.strip result }
+    {
+        self.strip.cut(alloc, 1)?;
+        self.strip.sync(alloc)?;
+        self.phase = Phase::Ready;
+        Ok(())
+    }
+
+    /// Stages a frame with this payload. It makes room for the length and the next gate in the payload's own memory,
+    /// and no device call. Where the journal's end would pass 2^63, the answer is want of memory, too.
+    pub fn stage(&mut self, _alloc: Global, payload: Vec<u8>) -> Result<(), (Vec<u8>, AllocError)>
+        requires ready { is_ready self.old ≡ true }
+        requires idle { has_staged self.old ≡ false }
+        requires some { 1 ≤ length payload.items }
+        requires most { length payload.items ≤ PAYLOAD_MAX }
+
+        ensures staged { OnOk result ((has_staged self.new ≡ true) × (is_in_doubt self.new ≡ false)) }
+        ensures payload { OnOk result (self.new.payload ≡ payload.items) }
+        ensures ready { is_ready self.new ≡ true }
+        ensures strip { self.new.strip ≡ self.old.strip }
+        ensures end { self.new.end ≡ self.old.end }
+        ensures refused { IfErr result (λ refused. refused.0.items ≡ payload.items) }
+        ensures same { OnErr result (self.new ≡ self.old) }
+    {
+        if END_MAX - self.end < (FRAMING + payload.len()) as u64 {
+            return Err((payload, AllocError));
+        }
+        self.staged = framed(payload)?;
+        self.phase = Phase::Staged;
+        Ok(())
+    }
+
+    /// Makes the staged frame stand, once, by at most four device calls, and takes no memory of its own. After a
+    /// refusal the frame is kept and in doubt, and the next settle goes on from the phase that failed. With nothing
+    /// staged it answers Ok and makes no call.
+    pub fn settle(&mut self, alloc: Global) -> Result<(), DeviceError>
+        ensures nothing { has_staged self.old ≡ false → (result ≡ Ok tt) × (self.new ≡ self.old) }
+
+        // At Ok the frame stands behind those from before.
+        ensures settled { OnOk result (has_staged self.old ≡ true → OfBytes S.Strip self.new.strip (StandsFor (with_staged S.Strip self.old))) }
+        ensures standing { OnOk result (has_staged self.old ≡ true → HasStanding S.Strip self.new (with_staged S.Strip self.old)) }
+        ensures end { OnOk result (has_staged self.old ≡ true → self.new.end ≡ self.old.end + frame_size (staged_frame self.old)) }
+        ensures idle { has_staged self.new ≡ is_err result }
+        ensures synced { OnOk result (has_staged self.old ≡ true → IsSynced S.Strip self.new.strip) }
+        ensures ready { is_ready self.new ≡ is_ready self.old }
+
+        // A refused one leaves the frames from before, with the new one or without, and keeps it.
+        ensures doubt { is_in_doubt self.new ≡ is_err result }
+        ensures either { has_staged self.old ≡ true → OfBytes S.Strip self.new.strip (StandsWithOrWithout S.Strip self.old) }
+        ensures kept { OnErr result (staged_frame self.new ≡ staged_frame self.old) }
+        ensures before { OnErr result (HasStanding S.Strip self.new (standing S.Strip self.old)) }
+        ensures goes_on { OnErr result (is_written self.old ≡ true → is_written self.new ≡ true) }
+        ensures first { OnErr result (is_written self.new ≡ false → S.calls self.new.strip ≤ S.calls self.old.strip + 2) }
+
+        ensures strip { SameStrip S.Strip 4 self.old.strip self.new.strip }
+        ensures second { is_written self.old ≡ true → S.calls self.new.strip ≤ S.calls self.old.strip + 2 }
+        ensures cause { CauseIn S.Strip self.old.strip self.new.strip result }
+    {
+        match self.phase {
+            Phase::Fresh | Phase::Shut | Phase::Ready => Ok(()),
+            Phase::Staged | Phase::Body => {
+                self.write_body(alloc)?;
+                self.open_gate(alloc)
+            }
+            Phase::Gate => self.open_gate(alloc),
+        }
+    }
+
+    // The first phase of a settle: the frame is there but for its gate.
+    fn write_body(&mut self, alloc: Global) -> Result<(), DeviceError>
+        requires staged { has_staged self.old ≡ true }
+        requires unwritten { is_written self.old ≡ false }
+
+        ensures written { OnOk result (self.new.phase ≡ Gate) }
+        ensures again { OnErr result (self.new.phase ≡ Body) }
+        ensures kept { staged_frame self.new ≡ staged_frame self.old }
+        ensures before { HasStanding S.Strip self.new (standing S.Strip self.old) }
+        ensures stands { OfBytes S.Strip self.new.strip (StandsFor (standing S.Strip self.old)) }
+
+        ensures strip { SameStrip S.Strip 2 self.old.strip self.new.strip }
+        ensures cause { CauseIn S.Strip self.old.strip self.new.strip result }
+    {
+        self.phase = Phase::Body;
+        self.strip.write_at(alloc, self.end + 1, &self.staged)?;
+        self.strip.sync(alloc)?;
+        self.phase = Phase::Gate;
+        Ok(())
+    }
+
+    // The second phase of a settle: the frame stands.
+    fn open_gate(&mut self, alloc: Global) -> Result<(), DeviceError>
+        requires { self.old.phase ≡ Gate }
+
+        ensures settled { OnOk result (OfBytes S.Strip self.new.strip (StandsFor (with_staged S.Strip self.old))) }
+        ensures standing { OnOk result (HasStanding S.Strip self.new (with_staged S.Strip self.old)) }
+        ensures synced { OnOk result (IsSynced S.Strip self.new.strip) }
+        ensures ready { OnOk result (self.new.phase ≡ Ready) }
+        ensures end { OnOk result (self.new.end ≡ self.old.end + frame_size (staged_frame self.old)) }
+        ensures again { OnErr result (self.new.phase ≡ Gate) }
+        ensures kept { OnErr result (staged_frame self.new ≡ staged_frame self.old) }
+        ensures before { OnErr result (HasStanding S.Strip self.new (standing S.Strip self.old)) }
+        ensures either { OfBytes S.Strip self.new.strip (StandsWithOrWithout S.Strip self.old) }
+
+        ensures strip { SameStrip S.Strip 2 self.old.strip self.new.strip }
+        ensures cause { CauseIn S.Strip self.old.strip self.new.strip result }
+    {
+        self.strip.write_at(alloc, self.end, &[OPEN_GATE])?;
+        self.strip.sync(alloc)?;
+        self.end += self.staged.len() as u64;
+        self.staged.clear();
+        self.phase = Phase::Ready;
+        Ok(())
+    }
+
+    /// The strip as it stands.
+    pub fn into_strip(self) -> S
+        ensures { result ≡ self.strip }
+    {
+        let Journal { strip, .. } = self;
+        strip
+    }
+}
