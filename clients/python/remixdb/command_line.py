@@ -20,8 +20,9 @@ REFUSED = 1
 BAD_LINE = 2
 
 EXPLANATION = f"""\
-Starts RemixDB over a store in memory, which lasts as long as the session. Reads requests from standard
-input, one a line, and prints a reply for each: at a prompt where input and output are a terminal.
+Starts RemixDB over a store in memory, which lasts as long as the session. Reads requests from
+standard input, one a line, and prints a reply for each: at a prompt where input and output are a
+terminal.
 
 {{requests}}
 
@@ -135,9 +136,9 @@ def read_arguments(arguments: Optional[List[str]]) -> argparse.Namespace:
 
 
 def prepare_streams() -> bool:
-    """Makes text stand for bytes in UTF-8 whatever the locale, and tells whether people type at a prompt."""
+    """Makes text stand for bytes in UTF-8 in any locale, and tells whether there is a prompt."""
     for stream in (sys.stdin, sys.stdout, sys.stderr):
-        stream.reconfigure(encoding="utf-8", errors="surrogateescape")  # type: ignore[union-attr]
+        stream.reconfigure(encoding="utf-8", errors="surrogateescape")  # type: ignore
     is_typed = sys.stdin.isatty() and sys.stdout.isatty()
     if is_typed:
         try:
@@ -148,7 +149,7 @@ def prepare_streams() -> bool:
 
 
 def die_of(number: signal.Signals) -> int:
-    """Ends this process as the signal would have, so that a shell sees that and stops its own loop."""
+    """Ends this process as the signal would have, so that a shell sees it and ends its loop."""
     signal.signal(number, signal.SIG_DFL)
     os.kill(os.getpid(), number)
     return 128 + number

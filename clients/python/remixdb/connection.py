@@ -50,9 +50,9 @@ class Connection:
         return self.receive()
 
     def send(self, request: Request) -> None:
-        """Sends a request and leaves its reply for later. Replies come in the order of the requests.
+        """Sends a request and leaves its reply for later. Replies come in the requests' order.
 
-        A program stops reading while too many of its replies are left, and a send then waits forever.
+        A program stops reading while too many of its replies are left. Then a send waits forever.
         """
         self.send_bytes(b"".join(request.pieces()))
 
@@ -75,7 +75,7 @@ class Connection:
         return reply
 
     def close(self) -> Optional[int]:
-        """Ends the session. Where it started a program, waits for its end and answers its status."""
+        """Ends the session. Waits for a program that it started, and answers its status."""
         try:
             self._requests.close()
         except BrokenPipeError:
@@ -101,8 +101,8 @@ class Program(Connection):
     """A session with a program that it starts. The program's notes go to standard error."""
 
     def __init__(self, *command: str) -> None:
-        # In a session of its own the program does not get the interrupt that a terminal sends to its
-        # client. It ends when its input does, so also where the client is killed.
+        # In a session of its own the program does not get the interrupt that a terminal sends to
+        # its client. It ends when its input does, so also where the client is killed.
         self._child = subprocess.Popen(
             command, stdin=subprocess.PIPE, stdout=subprocess.PIPE, start_new_session=True
         )

@@ -1,9 +1,9 @@
 """The messages of a session, and the bytes that each is written as.
 
-A message is a body behind its length. The first byte of a body says which message it is, and fields
-follow. Each class below says its first byte, its word and its fields in their order, and nothing else
-in this package repeats them. So a new request is a class here and a place in REQUESTS, and a new reply
-a class and a place in REPLIES.
+A message is a body behind its length. The first byte of a body says which message it is, and
+fields follow. Each class below says its first byte, its word and its fields in their order, and
+nothing else in this package repeats them. So a new request is a class here and a place in REQUESTS,
+and a new reply a class and a place in REPLIES.
 """
 
 from __future__ import annotations
@@ -81,7 +81,7 @@ U8 = Number(1)
 U64 = Number(8)
 
 REPLY_BODY_MOST = 1 + U64.width + VALUE.width + VALUE.most
-"""The longest body of a reply, a value's. A greater length shows that no RemixDB is at the other end."""
+"""The longest body of a reply, a value's. With a greater length the other end is no RemixDB."""
 
 
 def written_as(kind: Any) -> Any:
@@ -98,7 +98,7 @@ class Message:
     @classmethod
     def kinds(cls) -> List[Tuple[str, Any]]:
         """The names of the fields with their kinds, in the order in which they are written."""
-        return [(each.name, each.metadata["kind"]) for each in fields(cls)]  # type: ignore[arg-type]
+        return [(each.name, each.metadata["kind"]) for each in fields(cls)]  # type: ignore
 
     def pieces(self) -> List[bytes]:
         """The message's bytes: its length, its first byte, and what each field is written as."""
@@ -110,7 +110,7 @@ class Message:
 
 
 class Request(Message):
-    """What a client asks. A field out of its bounds is a ValueError as soon as the request is made."""
+    """What a client asks. To make one with a field out of bounds is a ValueError."""
 
     def __post_init__(self) -> None:
         for name, kind in self.kinds():
@@ -184,7 +184,7 @@ class Refusal(Exception, Message):
     """The store refused a request. A connection raises it, and its fields say more."""
 
 
-# A refusal is compared by identity, as exceptions are, and it is not frozen, since raising writes to it.
+# Refusals are compared by identity, as exceptions are. Raising writes to them, so none is frozen.
 @dataclass(eq=False)
 class BadMessage(Refusal):
     """What was sent is no message. The session has ended."""
@@ -234,12 +234,13 @@ class OutOfMemory(Refusal):
 REQUESTS: Dict[str, Type[Request]] = {each.word: each for each in (Put, Get, Quit)}
 
 REPLIES: Dict[int, Type[Message]] = {
-    each.first_byte: each for each in (Done, Value, Absent, Bye, BadMessage, DeviceFault, OutOfMemory)
+    each.first_byte: each
+    for each in (Done, Value, Absent, Bye, BadMessage, DeviceFault, OutOfMemory)
 }
 
 
 def read_reply(data: bytes) -> Message:
-    """The one reply whose body this is. A refusal is handed back here, and raised by connections."""
+    """The one reply whose body this is. A refusal is handed back, and raised by connections."""
     body = Body(data)
     first_byte = body.take(1)[0]
     if first_byte not in REPLIES:

@@ -1,13 +1,14 @@
 """Requests and replies as lines of text.
 
-A line is words with spaces between them. A word in double quotes may hold spaces, and may be empty.
-Text stands for its bytes in UTF-8, and a backslash writes what text cannot. What is printed here can
-be typed again and gives the same bytes.
+A line is words with spaces between them. A word in double quotes may hold spaces, and may be
+empty. Text stands for its bytes in UTF-8, and a backslash writes what text cannot. What is printed
+here can be typed again and gives the same bytes.
 """
 
 from __future__ import annotations
 
-from typing import List, Tuple
+from string import hexdigits
+from typing import List, Tuple, Type
 
 from .messages import REQUESTS, Bytes, Message, Refusal, Request
 
@@ -26,12 +27,12 @@ def to_bytes(text: str) -> bytes:
 
 
 def read_escape(line: str, place: int) -> Tuple[bytes, int]:
-    """What an escape stands for, and the place behind it. It begins with the backslash at the place."""
+    """What the escape whose backslash is at the place stands for, and the place behind it."""
     letter = line[place + 1 : place + 2]
     if letter in PLAIN_ESCAPES:
         return to_bytes(PLAIN_ESCAPES[letter]), place + 2
     digits = line[place + 2 : place + 4]
-    if letter == "x" and len(digits) == 2 and all(each in "0123456789abcdefABCDEF" for each in digits):
+    if letter == "x" and len(digits) == 2 and all(each in hexdigits for each in digits):
         return bytes.fromhex(digits), place + 4
     raise BadLine(f"{line[place : place + 4]} is no escape; {ESCAPES_TOLD}")
 
@@ -75,10 +76,9 @@ def read_words(line: str) -> List[bytes]:
     return words
 
 
-def form_of(request: type) -> str:
+def form_of(request: Type[Request]) -> str:
     """How a request is typed, as put KEY VALUE."""
-    names = [name.upper() for name, _ in request.kinds()]  # type: ignore[attr-defined]
-    return " ".join([request.word, *names])  # type: ignore[attr-defined]
+    return " ".join([request.word, *(name.upper() for name, _ in request.kinds())])
 
 
 def forms() -> str:
@@ -93,7 +93,10 @@ def request_of(words: List[bytes]) -> Request:
         raise BadLine(f"there is no request {quoted(words[0])}; there are {forms()}")
     request = REQUESTS[name]
     if len(words) - 1 != len(request.kinds()):
-        raise BadLine(f"{form_of(request)} is wanted, and {len(words) - 1} words follow {name}")
+        plural = "" if len(words) == 2 else "s"
+        raise BadLine(
+            f"{form_of(request)} is wanted, and {name} has {len(words) - 1} word{plural} behind it"
+        )
     try:
         return request(*words[1:])
     except ValueError as fault:
@@ -101,7 +104,7 @@ def request_of(words: List[bytes]) -> Request:
 
 
 def spelled(letter: str) -> str:
-    """A letter of a quoted word: itself where it can be seen, else an escape for each of its bytes."""
+    """A letter of a quoted word: itself where it can be seen, else an escape for each byte."""
     if letter in ('"', "\\"):
         return "\\" + letter
     if letter == "\n":

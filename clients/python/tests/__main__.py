@@ -10,7 +10,8 @@ from remixdb.connection import program_path
 
 def is_built() -> bool:
     """Runs a session without input, so that no test has to wait for a build."""
-    return subprocess.run([program_path(), "script", "mem"], stdin=subprocess.DEVNULL).returncode == 0
+    words = [program_path(), "script", "mem"]
+    return subprocess.run(words, stdin=subprocess.DEVNULL).returncode == 0
 
 
 def main() -> int:

@@ -8,7 +8,7 @@ from typing import IO, NamedTuple, Union
 from remixdb.connection import program_path
 
 SECONDS = 30
-"""How long a run may take. A program that waits for what never comes fails its test, and hangs none."""
+"""How long a run may take. A program that waits for what never comes fails its test by this."""
 
 SCRIPT = ("script", "mem")
 

@@ -58,7 +58,8 @@ class Piped(unittest.TestCase):
     def test_a_bad_line_ends_a_piped_session(self) -> None:
         status, replies, notes = run_client("put a 1\nput a\nget a\n")
         self.assertEqual((status, replies), (2, "done 0\n"))
-        self.assertEqual(notes, "remixdb-client: line 2: put KEY VALUE is wanted, and 1 words follow put\n")
+        wanted = "line 2: put KEY VALUE is wanted, and put has 1 word behind it"
+        self.assertEqual(notes, f"remixdb-client: {wanted}\n")
 
     def test_frames_are_shown_apart_from_replies(self) -> None:
         status, replies, notes = run_client("put a 1\n", "--hex")
@@ -100,9 +101,10 @@ class Trouble(unittest.TestCase):
         return {PROGRAM_VARIABLE: path}
 
     def test_a_program_that_is_not_there(self) -> None:
-        status, replies, notes = run_client("get a\n", **{PROGRAM_VARIABLE: "/nowhere/remixdb"})
+        status, replies, notes = run_client("get a\n", **{PROGRAM_VARIABLE: "/nowhere"})
         self.assertEqual((status, replies), (1, ""))
-        self.assertEqual(notes, "remixdb-client: cannot start /nowhere/remixdb: No such file or directory\n")
+        wanted = "cannot start /nowhere: No such file or directory"
+        self.assertEqual(notes, f"remixdb-client: {wanted}\n")
 
     def test_a_program_that_ends_early(self) -> None:
         status, replies, notes = run_client("get a\n", **self.fake_program("exit 6\n"))
@@ -110,8 +112,10 @@ class Trouble(unittest.TestCase):
         self.assertIn("the program ended with status 6", notes)
 
     def test_a_refusal_is_a_reply_and_a_status(self) -> None:
-        fake = self.fake_program(r"printf '\000\000\000\001\345\000\000\000\001\211'; cat >/dev/null" "\n")
-        self.assertEqual(run_client("get a\nquit\n", **fake), (1, "refused: out of memory\nbye\n", ""))
+        refusal, bye = r"\000\000\000\001\345", r"\000\000\000\001\211"
+        fake = self.fake_program(f"printf '{refusal}{bye}'; cat >/dev/null\n")
+        wanted = (1, "refused: out of memory\nbye\n", "")
+        self.assertEqual(run_client("get a\nquit\n", **fake), wanted)
 
     def test_an_interrupt_ends_a_wait_for_a_reply(self) -> None:
         client = subprocess.Popen(

@@ -36,7 +36,8 @@ class Sessions(unittest.TestCase):
         with start_program() as store:
             for number in range(100):
                 store.send(Put(b"%d" % number, b""))
-            self.assertEqual([store.receive() for _ in range(100)], [Done(each) for each in range(100)])
+            for number in range(100):
+                self.assertEqual(store.receive(), Done(number))
 
     def test_a_close_without_a_quit_ends_well(self) -> None:
         store = start_program()

@@ -109,5 +109,6 @@ class Lines(unittest.TestCase):
         self.assertEqual(line_of(DeviceFault(3)), "refused: device fault on device 3")
         self.assertEqual(line_of(OutOfMemory()), "refused: out of memory")
         self.assertEqual(
-            line_of(BadMessage(9, 2)), "refused: bad message at byte 9, code 2: there is no such request"
+            line_of(BadMessage(9, 2)),
+            "refused: bad message at byte 9, code 2: there is no such request",
         )

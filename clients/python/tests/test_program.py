@@ -50,7 +50,8 @@ class Sessions(unittest.TestCase):
     """Whole inputs, and all that comes of them."""
 
     def test_a_put_is_read_back(self) -> None:
-        self.assertEqual(run_script(PUT_A + GET_A + QUIT), Ended(0, DONE_0 + VALUE_1_OF_A + BYE, b""))
+        wanted = Ended(0, DONE_0 + VALUE_1_OF_A + BYE, b"")
+        self.assertEqual(run_script(PUT_A + GET_A + QUIT), wanted)
 
     def test_an_empty_input_gives_nothing(self) -> None:
         self.assertEqual(run_script(b""), Ended(0, b"", b""))
@@ -66,7 +67,8 @@ class Sessions(unittest.TestCase):
         put_again = bytes.fromhex("00000009 01 0001 61 00000001 32")
         done_1 = bytes.fromhex("00000009 81 0000000000000001")
         value_2 = bytes.fromhex("0000000e 82 0000000000000002 00000001 32")
-        self.assertEqual(run_script(PUT_A + put_again + GET_A), Ended(0, DONE_0 + done_1 + value_2, b""))
+        wanted = Ended(0, DONE_0 + done_1 + value_2, b"")
+        self.assertEqual(run_script(PUT_A + put_again + GET_A), wanted)
 
     def test_nothing_after_a_quit_is_answered(self) -> None:
         self.assertEqual(run_script(QUIT + PUT_A), Ended(0, BYE, b""))
@@ -243,7 +245,16 @@ class Words(unittest.TestCase):
     """The words behind the program's name."""
 
     def test_other_words_are_refused(self) -> None:
-        for words in ("", "script", "mem", "mem script", "script mem mem", "script -- x", "chek x", "script MEM"):
+        for words in (
+            "",
+            "script",
+            "mem",
+            "mem script",
+            "script mem mem",
+            "script -- x",
+            "script MEM",
+            "chek x",
+        ):
             with self.subTest(words=words):
                 self.assertEqual(run_program(PUT_A, *words.split()), Ended(2, b"", WORDS_NOTE))
 
@@ -254,5 +265,7 @@ class Words(unittest.TestCase):
         with tempfile.TemporaryDirectory() as folder:
             link = os.path.join(folder, "store")
             os.symlink(program_path(), link)
-            run = subprocess.run([link, *SCRIPT], cwd=folder, input=QUIT, capture_output=True, timeout=SECONDS)
+            run = subprocess.run(
+                [link, *SCRIPT], cwd=folder, input=QUIT, capture_output=True, timeout=SECONDS
+            )
         self.assertEqual(Ended(run.returncode, run.stdout, run.stderr), Ended(0, BYE, b""))
