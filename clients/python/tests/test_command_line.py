@@ -174,15 +174,32 @@ class Terminal:
     def type(self, text: str) -> None:
         os.write(self._terminal, text.encode())
 
-    def wait_for(self, text: str) -> None:
-        """Reads until the text has come, behind what was waited for before."""
-        end = time.monotonic() + SECONDS
+    def comes(self, text: str, seconds: float) -> bool:
+        """Reads until the text has come, behind what has come before, and tells whether it did."""
+        end = time.monotonic() + seconds
         while text not in self.seen[self._place :]:
-            ready, _, _ = select.select([self._terminal], [], [], max(0, end - time.monotonic()))
-            if not ready:
-                raise AssertionError(f"{text!r} did not come: {self.seen!r}")
+            left = max(0, end - time.monotonic())
+            if not select.select([self._terminal], [], [], left)[0]:
+                return False
             self.seen += os.read(self._terminal, 4_096).decode()
         self._place = self.seen.index(text, self._place) + len(text)
+        return True
+
+    def wait_for(self, text: str) -> None:
+        """Reads until the text has come."""
+        if not self.comes(text, SECONDS):
+            raise AssertionError(f"{text!r} did not come: {self.seen!r}")
+
+    def interrupt(self) -> None:
+        """Types Ctrl-C until there is a new prompt.
+
+        Python notices an interrupt late if it comes just before it begins to wait for a key.
+        """
+        for _ in range(SECONDS):
+            self.type("\x03")
+            if self.comes("remixdb> ", seconds=1):
+                return
+        raise AssertionError(f"the interrupt did nothing: {self.seen!r}")
 
     def wait(self) -> int:
         """The exit status, once what is left has been read."""
@@ -218,8 +235,7 @@ class Typed(unittest.TestCase):
         terminal.wait_for("remixdb> ")
         terminal.type("frob")
         terminal.wait_for("frob")
-        terminal.type("\x03")
-        terminal.wait_for("remixdb> ")
+        terminal.interrupt()
         terminal.type("get a\n")
         terminal.wait_for('value 1 "1"')
         terminal.wait_for("remixdb> ")
