@@ -62,7 +62,7 @@ class Connection:
             self._requests.write(data)
             self._requests.flush()
         except BrokenPipeError:
-            raise self._ended() from None
+            pass  # The other end is gone. What it replied before can be received, and then its end.
 
     def receive(self) -> Message:
         """Waits for the next reply, and raises it where it is a refusal."""
@@ -87,11 +87,8 @@ class Connection:
     def _take(self, count: int) -> bytes:
         taken = self._replies.read(count)
         if len(taken) < count:
-            raise self._ended()
+            raise SessionEnded(self.close())
         return taken
-
-    def _ended(self) -> SessionEnded:
-        return SessionEnded(self.close())
 
     def _wait(self) -> Optional[int]:
         return None

@@ -22,6 +22,8 @@ from remixdb import (
     start_program,
 )
 
+from .support import SECONDS
+
 
 class Sessions(unittest.TestCase):
     def test_requests_are_answered(self) -> None:
@@ -62,6 +64,14 @@ class Sessions(unittest.TestCase):
             with self.assertRaises(SessionEnded) as ended:
                 store.receive()
             self.assertEqual(ended.exception.status, 1)
+
+    def test_a_refusal_is_not_lost_where_more_was_sent(self) -> None:
+        with start_program() as store:
+            store.send_bytes(bytes.fromhex("00000001 10"))
+            self.assertEqual(store._child.wait(SECONDS), 1)
+            store.send(Get(b"a"))
+            self.assertRaises(BadMessage, store.receive)
+            self.assertRaises(SessionEnded, store.receive)
 
     def test_a_session_that_has_ended_is_told(self) -> None:
         with start_program() as store:
