@@ -1,12 +1,15 @@
 -- What a strip stands for at a journal's end. To know: closed_stands, open_stands, either_stands.
-use Rattle.std.proofs.Common.{◌≡◌, ◌≢◌, ◌⊎◌, inl, inr, ℕ, zero, suc, ◌+◌, ◌-◌, ◌^◌, ◌<◌, ◌≤◌, Bool, true, false, List, [], ◌∷◌, ◌++◌, length, get_or, take, drop, refl, sym, ap, subst, ◌∙◌, append_assoc, arith}
-use Rattle.std.specs.Int.{w32, from_be_bytes, to_be_bytes}
+use Rattle.std.specs.Prelude.{IsTrue}
+use Rattle.frame_journal.specs.declared.phase.Phase.{Phase}
+use Rattle.frame_journal.specs.declared.phase.Phase.TheVariants.{Fresh, Shut, Ready, Staged, Body, Gate}
+use Rattle.frame_journal.specs.JournalState.{ready_in, staged_in}
+use Rattle.std.proofs.Common.{◌≡◌, ◌≢◌, inl, inr, ℕ, zero, suc, ◌+◌, ◌-◌, ◌<◌, ◌≤◌, true, List, [], ◌∷◌, ◌++◌, length, get_or, take, drop, refl, sym, ap, subst, ◌∙◌, append_assoc, arith, false, Bool}
 use Rattle.std.proofs.lemmas.Bool.{cases_eq}
-use Rattle.std.proofs.lemmas.List.{take-append-drop, length-append, length-take-le, length-drop, take_at, drop_at, append-nil, drop-drop, drop_more, get_or_at, get_or-drop, get_or-take, take_all, drop_all, take-append-le}
+use Rattle.std.proofs.lemmas.List.{take-append-drop, length-append, length-take-le, length-drop, take_at, drop_at, append-nil, drop-drop, drop_more, get_or-drop}
 use Rattle.std.proofs.lemmas.Nat.{from_be_bytes-to_be_bytes_4}
 use Rattle.frame_journal.specs.FrameValue.{FrameValue}
 use Rattle.frame_journal.specs.Frames.{told_length, is_whole, payload_of, frames_behind, frames_of, end_of, IsClosedAt, StandsFor}
-use Rattle.frame_journal.specs.Journals.{framed, unframed, IsFramed, standing_to, opened, covered, EndsAt, IsWrittenAt, StandsForNoneOr, StandsWithOr}
+use Rattle.frame_journal.specs.Journals.{framed, unframed, IsFramed, standing_to, EndsAt, IsWrittenAt, StandsWithOr, IsSound}
 use Rattle.frame_journal.proofs.FrameLemmas.{is_whole-from, is_whole-closed, frames-whole_at, frames-none, frames_split, end_of-append}
 
 -- what is framed, and its length
@@ -164,3 +167,12 @@ either_stands bytes staged end ends written is =
       | inl open_gate ↦ inr (open_stands bytes (unframed staged) there.0 end ends (there.1 ∙ ap (λ (g : ℕ). g ∷ framed (unframed staged) ++ there.0) open_gate) is.some is.most)
       | inr shut ↦ inl (closed_stands bytes end ends (record { inside = ends.inside; closed = shut }))
     ]
+
+-- a ready journal with nothing staged: its strip stands for its frames
+pub ready_stands : (told : Bool) (bytes : List ℕ) (phase : Phase) (end : ℕ) (staged : List ℕ) → IsSound told bytes phase end staged → ready_in phase ≡ true → staged_in phase ≡ false → IsTrue told → StandsFor (standing_to end bytes) bytes
+ready_stands told bytes Ready end staged sound ready idle t = let h = sound.holds t in closed_stands bytes end h.0 h.1
+ready_stands told bytes Fresh end staged sound ready idle t = absurd cc
+ready_stands told bytes Shut end staged sound ready idle t = absurd cc
+ready_stands told bytes Staged end staged sound ready idle t = absurd cc
+ready_stands told bytes Body end staged sound ready idle t = absurd cc
+ready_stands told bytes Gate end staged sound ready idle t = absurd cc

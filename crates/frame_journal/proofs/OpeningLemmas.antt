@@ -1,17 +1,17 @@
 -- What an opening finds makes a sound journal.
-use Rattle.std.proofs.Common.{◌≡◌, ◌⊎◌, inl, inr, ℕ, zero, suc, ◌+◌, ◌<◌, ◌≤◌, Bool, true, false, List, [], ◌∷◌, length, get_or, drop, refl, sym, ap, subst, ◌∙◌, arith}
+use Rattle.std.proofs.Common.{◌≡◌, ◌⊎◌, inl, inr, ℕ, ◌<◌, true, false, List, [], ◌∷◌, length, get_or, refl, sym, ap, ◌∙◌, arith}
 use Rattle.std.proofs.lemmas.Bool.Decides.{nat_tests}
-use Rattle.std.specs.Prelude.{nat_lt}
-use Rattle.std.proofs.lemmas.List.{nil_from_length}
+use Rattle.std.specs.Prelude.{nat_lt, if◌then◌else◌}
 use Rattle.frame_journal.specs.declared.phase.Phase.{Phase}
 use Rattle.frame_journal.specs.declared.phase.Phase.TheVariants.{Fresh, Shut, Ready, Staged, Body, Gate}
 use Rattle.frame_journal.specs.FrameValue.{FrameValue}
-use Rattle.frame_journal.specs.Frames.{told_length, is_whole, frames_behind, frames_of, end_of, IsClosedAt, StandsFor}
-use Rattle.frame_journal.specs.JournalState.{ready_in, staged_in}
-use Rattle.frame_journal.specs.Journals.{standing_to, opened, covered, EndsAt, HoldsIn, StagedIn}
+use Rattle.frame_journal.specs.Frames.{told_length, is_whole, frames_of, end_of}
+use Rattle.frame_journal.specs.JournalState.{ready_in, staged_in, closing_in}
+use Rattle.frame_journal.specs.Journals.{standing_to, covered, HoldsIn, StagedIn}
 use Rattle.frame_journal.specs.Openings.{PhaseAt}
 use Rattle.frame_journal.proofs.FrameLemmas.{frames-none}
 use Rattle.frame_journal.proofs.JournalLemmas.{standing_to-end}
+use Rattle.frame_journal.proofs.PhaseLemmas.{stake-ready}
 
 -- frames have bytes
 none_from_end : (frames : List FrameValue) → end_of frames ≡ 0 → frames ≡ []
@@ -77,3 +77,16 @@ standing-found phase bytes end at is = ap (λ (k : ℕ). standing_to k bytes) is
     inside Staged at some = absurd at
     inside Body at some = absurd at
     inside Gate at some = absurd at
+
+-- what was found is at stake in a first clear
+pub stake-found : (phase : Phase) (bytes : List ℕ) (end : ℕ) → PhaseAt bytes end phase → end ≡ end_of (frames_of bytes) → (if closing_in phase end then covered bytes else []) ≡ frames_of bytes
+stake-found Fresh bytes end at is =
+    let none : frames_of bytes ≡ [] = none_from_end (frames_of bytes) (sym is ∙ at.0) in
+    fresh-found bytes none at.1 ∙ sym none
+stake-found Shut bytes end at is = sym (none_from_end (frames_of bytes) (sym is ∙ at.0))
+stake-found Ready bytes end at is =
+    let holds = holds-found Ready bytes end at is in
+    stake-ready bytes end holds.0 holds.1 ∙ standing-found Ready bytes end at is
+stake-found Staged bytes end at is = absurd at
+stake-found Body bytes end at is = absurd at
+stake-found Gate bytes end at is = absurd at

@@ -1,5 +1,5 @@
 -- What calls of a strip leave of it, however many they are.
-use Rattle.std.specs.Prelude.{◌≡◌, ℕ, ◌+◌, ◌≤◌, List, Result, OnOk}
+use Rattle.std.specs.Prelude.{◌≡◌, ℕ, ◌+◌, ◌≤◌, List, Result}
 use Rattle.disk_model.specs.declared.device_error.DeviceError.{DeviceError}
 use Rattle.disk_model.specs.declared.strip.Strip.{Ghosts}
 use Rattle.disk_model.specs.Causes.{HasCause}

@@ -1,5 +1,5 @@
 -- What a journal keeps of its strip's bytes, phase by phase.
-use Rattle.std.specs.Prelude.{◌≡◌, ◌⊎◌, ℕ, ◌+◌, ◌-◌, ◌^◌, ◌<◌, ◌≤◌, Bool, false, List, [], ◌∷◌, ◌++◌, length, take, drop}
+use Rattle.std.specs.Prelude.{◌≡◌, ◌⊎◌, ℕ, ◌+◌, ◌-◌, ◌^◌, ◌<◌, ◌≤◌, Bool, false, List, [], ◌∷◌, ◌++◌, length, take, drop, if◌then◌else◌}
 use Rattle.std.specs.Int.{w32, to_be_bytes}
 use Rattle.disk_model.specs.declared.strip.Strip.{Ghosts}
 use Rattle.disk_model.specs.Strips.{IfTold}
@@ -9,7 +9,7 @@ use Rattle.frame_journal.specs.declared.phase.Phase.{Phase}
 use Rattle.frame_journal.specs.declared.phase.Phase.TheVariants.{Fresh, Shut, Ready, Staged, Body, Gate}
 use Rattle.frame_journal.specs.FrameValue.{FrameValue}
 use Rattle.frame_journal.specs.Frames.{frames_of, end_of, IsClosedAt, StandsFor}
-use Rattle.frame_journal.specs.JournalState.{JournalState, ready_in, staged_frame}
+use Rattle.frame_journal.specs.JournalState.{JournalState, ready_in, closes_gate, staged_frame}
 
 -- what stands behind a frame's gate: the payload's length, the payload, and a closed gate
 unfoldable pub framed : List ℕ → List ℕ
@@ -48,6 +48,14 @@ opened bytes = OPEN_GATE ∷ drop 1 bytes
 -- the frames that stand, or stood before a clear began to close the gate at place 0
 abbrev pub covered : List ℕ → List FrameValue
 covered bytes = frames_of (opened bytes)
+
+-- the frames that a refused clear may still leave, or open again: where it begins behind the gate, none
+abbrev pub at_stake : {S : Type 0} → Ghosts S → JournalState S → List FrameValue
+at_stake strip journal = if closes_gate journal then covered (strip.content journal.strip) else []
+
+-- where the strip tells its bytes, these frames are at stake in a clear
+abbrev pub HasAtStake : {S : Type 0} → Ghosts S → JournalState S → List FrameValue → Type 0
+HasAtStake strip journal frames = IfTold (strip.tells journal.strip) (at_stake strip journal ≡ frames)
 
 -- whole frames end there, and a byte follows
 pub record EndsAt (bytes : List ℕ) (end : ℕ) : Type 0 where

@@ -3,7 +3,7 @@ ghost use Rattle.std.specs.Prelude.{◌≡◌, ◌+◌, ◌<◌, ◌≤◌, ◌�
 ghost use Rattle.frame_journal.specs.Devices.{SameStrip, CauseIn, OfBytes, KeepsBytes, IsSynced};
 ghost use Rattle.frame_journal.specs.Frames.{StandsFor, HasNoTorn, frame_size, end_of};
 ghost use Rattle.frame_journal.specs.JournalState.{is_ready, has_staged, is_in_doubt, is_written, closes_gate, staged_frame};
-ghost use Rattle.frame_journal.specs.Journals.{standing, with_staged, HasStanding, covered, IsEmptied, StandsForNoneOr, StandsWithOrWithout};
+ghost use Rattle.frame_journal.specs.Journals.{standing, with_staged, HasStanding, covered, at_stake, HasAtStake, IsEmptied, StandsForNoneOr, StandsWithOrWithout};
 ghost use Rattle.frame_journal.specs.Causes.{OpeningCause};
 ghost use Rattle.frame_journal.specs.Openings.{TellsTorn, strip_of};
 ghost use Rattle.frame_journal.specs.declared.phase.Phase.TheVariants.{Fresh, Shut, Ready, Staged, Body, Gate};
@@ -39,15 +39,17 @@ impl<S: Strip> Model for Journal<S> {
 }
 
 impl<S: Strip> Journal<S> {
-    /// Opens a strip as a journal: syncs it, reads it once, and writes nothing. The frames come in order. A strip without
-    /// a frame opens, too, and is not ready until a clear answered Ok.
+    /// Opens a strip as a journal: syncs it, reads it once, and writes nothing. The frames come in
+    /// order. A strip without a frame opens, too, and is not ready until a clear answered Ok.
     pub fn open(alloc: Global, mut strip: S) -> Result<(Journal<S>, Vec<Frame>), (S, JournalError)>
         // What the strip stands for, and how far the journal has come.
         ensures frames { IfOk result (λ found. OfBytes S.Strip strip (StandsFor found.1.items)) }
         ensures standing { IfOk result (λ found. HasStanding S.Strip found.0 found.1.items) }
+        ensures stake { IfOk result (λ found. HasAtStake S.Strip found.0 found.1.items) }
         ensures end { IfOk result (λ found. found.0.end ≡ end_of found.1.items) }
         ensures ready { IfOk result (λ found. is_ready found.0 ≡ nat_lt 0 (length found.1.items)) }
-        ensures idle { IfOk result (λ found. (has_staged found.0 ≡ false) × (is_in_doubt found.0 ≡ false)) }
+        ensures idle { IfOk result
+            (λ found. (has_staged found.0 ≡ false) × (is_in_doubt found.0 ≡ false)) }
 
         // A torn header is told exactly where one is; an open journal has none.
         ensures torn { IfErr result (λ refused. OfBytes S.Strip strip (TellsTorn refused.1)) }
@@ -57,7 +59,8 @@ impl<S: Strip> Journal<S> {
         ensures strip { SameStrip S.Strip 3 strip (strip_of result) }
         ensures content { KeepsBytes S.Strip strip (strip_of result) }
         ensures synced { OnOk result (IsSynced S.Strip (strip_of result)) }
-        ensures cause { IfErr result (λ refused. OpeningCause (S.book strip) (S.count strip) (S.count refused.0) refused.1) }
+        ensures cause { IfErr result
+            (λ refused. OpeningCause (S.book strip) (S.count strip) (S.count refused.0) refused.1) }
         ensures kept { IfOk result (λ found. S.count found.0.strip ≡ S.count strip) }
     {
         match found_on(alloc, &mut strip) {
@@ -104,29 +107,38 @@ impl<S: Strip> Journal<S> {
         self.end
     }
 
-    /// Makes the journal empty and ready, by at most four device calls. After a refusal it is not ready, and the next
-    /// clear goes on from the phase that failed.
+    /// Makes the journal empty and ready, by at most four device calls. After a refusal it is not
+    /// ready, and the next clear goes on from the phase that failed.
     pub fn clear(&mut self, alloc: Global) -> Result<(), DeviceError>
         requires { has_staged self.old ≡ false }
 
         // At Ok one byte is left, a closed gate: 00, or the byte that was found there.
         ensures emptied { OnOk result (OfBytes S.Strip self.new.strip IsEmptied) }
         ensures stands { OnOk result (OfBytes S.Strip self.new.strip (StandsFor [])) }
-        ensures written { closes_gate self.old ≡ true → OnOk result (OfBytes S.Strip self.new.strip (λ bytes. bytes ≡ CLOSED_GATE ∷ [])) }
+        ensures written { closes_gate self.old ≡ true →
+            OnOk result (OfBytes S.Strip self.new.strip (λ bytes. bytes ≡ CLOSED_GATE ∷ [])) }
         ensures synced { OnOk result (IsSynced S.Strip self.new.strip) }
         ensures ready { is_ready self.new ≡ is_ok result }
         ensures end { self.new.end ≡ 0 }
         ensures standing { HasStanding S.Strip self.new [] }
         ensures idle { has_staged self.new ≡ false }
 
-        // It leaves no frame, or those from before the first clear that was refused.
-        ensures either { OfBytes S.Strip self.new.strip (StandsForNoneOr (covered (S.content self.old.strip))) }
+        // Whatever it answers, it leaves no frame, or those at stake: a ready journal's own.
+        ensures either { OfBytes S.Strip self.new.strip
+            (StandsForNoneOr (at_stake S.Strip self.old)) }
+        ensures own { is_ready self.old ≡ true →
+            HasAtStake S.Strip self.old (standing S.Strip self.old) }
+
+        // A refused one goes on from the phase that failed, with the same frames at stake.
         ensures goes_on { OnErr result (closes_gate self.new ≡ true → closes_gate self.old ≡ true) }
-        ensures first { OnErr result (closes_gate self.new ≡ true → S.calls self.new.strip ≤ S.calls self.old.strip + 2) }
-        ensures same { OnErr result (closes_gate self.new ≡ true → OfBytes S.Strip self.new.strip (λ bytes. covered bytes ≡ covered (S.content self.old.strip))) }
+        ensures first { OnErr result (closes_gate self.new ≡ true →
+            S.calls self.new.strip ≤ S.calls self.old.strip + 2) }
+        ensures same { OnErr result (closes_gate self.new ≡ true →
+            HasAtStake S.Strip self.new (at_stake S.Strip self.old)) }
 
         ensures strip { SameStrip S.Strip 4 self.old.strip self.new.strip }
-        ensures second { closes_gate self.old ≡ false → S.calls self.new.strip ≤ S.calls self.old.strip + 2 }
+        ensures second { closes_gate self.old ≡ false →
+            S.calls self.new.strip ≤ S.calls self.old.strip + 2 }
         ensures cause { CauseIn S.Strip self.old.strip self.new.strip result }
     {
         self.begin_clear();
@@ -143,9 +155,12 @@ impl<S: Strip> Journal<S> {
         ensures phase { self.new.phase ≡ (if closes_gate self.old then Fresh else Shut) }
         ensures end { self.new.end ≡ 0 }
         ensures payload { self.new.payload ≡ [] }
+        ensures own { is_ready self.old ≡ true →
+            HasAtStake S.Strip self.old (standing S.Strip self.old) }
     {
         if let Phase::Ready = self.phase {
-            // With no frame, the gate at place 0 is closed and synced: a write there could open an old frame again.
+            // With no frame, the gate at place 0 is closed and synced: a write there could open an
+            // old frame again.
             self.phase = if self.end == 0 {
                 Phase::Shut
             } else {
@@ -160,11 +175,14 @@ impl<S: Strip> Journal<S> {
         requires { self.old.phase ≡ Fresh }
 
         ensures closed { OnOk result (self.new.phase ≡ Shut) }
-        ensures gate { OnOk result (OfBytes S.Strip self.new.strip (λ bytes. take 1 bytes ≡ CLOSED_GATE ∷ [])) }
+        ensures gate { OnOk result
+            (OfBytes S.Strip self.new.strip (λ bytes. take 1 bytes ≡ CLOSED_GATE ∷ [])) }
         ensures again { OnErr result (self.new.phase ≡ Fresh) }
-        ensures same { OnErr result (OfBytes S.Strip self.new.strip (λ bytes. covered bytes ≡ covered (S.content self.old.strip))) }
+        ensures same { OnErr result
+            (OfBytes S.Strip self.new.strip (λ bytes. covered bytes ≡ covered (S.content self.old.strip))) }
         ensures end { self.new.end ≡ 0 }
-        ensures either { OfBytes S.Strip self.new.strip (StandsForNoneOr (covered (S.content self.old.strip))) }
+        ensures either { OfBytes S.Strip self.new.strip
+            (StandsForNoneOr (covered (S.content self.old.strip))) }
 
         ensures strip { SameStrip S.Strip 2 self.old.strip self.new.strip }
         ensures cause { CauseIn S.Strip self.old.strip self.new.strip result }
@@ -183,7 +201,8 @@ impl<S: Strip> Journal<S> {
         ensures again { OnErr result (self.new.phase ≡ Shut) }
         ensures end { self.new.end ≡ 0 }
         ensures emptied { OnOk result (OfBytes S.Strip self.new.strip IsEmptied) }
-        ensures cut { OnOk result (OfBytes S.Strip self.new.strip (λ bytes. bytes ≡ take 1 (S.content self.old.strip))) }
+        ensures cut { OnOk result
+            (OfBytes S.Strip self.new.strip (λ bytes. bytes ≡ take 1 (S.content self.old.strip))) }
         ensures synced { OnOk result (IsSynced S.Strip self.new.strip) }
         ensures none { OfBytes S.Strip self.new.strip (StandsFor []) }
 
@@ -196,8 +215,9 @@ impl<S: Strip> Journal<S> {
         Ok(())
     }
 
-    /// Stages a frame with this payload. It makes room for the length and the next gate in the payload's own memory,
-    /// and no device call. Where the journal's end would pass 2^63, the answer is want of memory, too.
+    /// Stages a frame with this payload. It makes room for the length and the next gate in the
+    /// payload's own memory, and no device call. Where the journal's end would pass 2^63, the answer
+    /// is want of memory, too.
     pub fn stage(&mut self, _alloc: Global, payload: Vec<u8>) -> Result<(), (Vec<u8>, AllocError)>
         requires ready { is_ready self.old ≡ true }
         requires idle { has_staged self.old ≡ false }
@@ -220,30 +240,37 @@ impl<S: Strip> Journal<S> {
         Ok(())
     }
 
-    /// Makes the staged frame stand, once, by at most four device calls, and takes no memory of its own. After a
-    /// refusal the frame is kept and in doubt, and the next settle goes on from the phase that failed. With nothing
-    /// staged it answers Ok and makes no call.
+    /// Makes the staged frame stand, once, by at most four device calls, and takes no memory of its
+    /// own. After a refusal the frame is kept and in doubt, and the next settle goes on from the
+    /// phase that failed. With nothing staged it answers Ok and makes no call.
     pub fn settle(&mut self, alloc: Global) -> Result<(), DeviceError>
         ensures nothing { has_staged self.old ≡ false → (result ≡ Ok tt) × (self.new ≡ self.old) }
 
         // At Ok the frame stands behind those from before.
-        ensures settled { OnOk result (has_staged self.old ≡ true → OfBytes S.Strip self.new.strip (StandsFor (with_staged S.Strip self.old))) }
-        ensures standing { OnOk result (has_staged self.old ≡ true → HasStanding S.Strip self.new (with_staged S.Strip self.old)) }
-        ensures end { OnOk result (has_staged self.old ≡ true → self.new.end ≡ self.old.end + frame_size (staged_frame self.old)) }
+        ensures settled { OnOk result (has_staged self.old ≡ true →
+            OfBytes S.Strip self.new.strip (StandsFor (with_staged S.Strip self.old))) }
+        ensures standing { OnOk result (has_staged self.old ≡ true →
+            HasStanding S.Strip self.new (with_staged S.Strip self.old)) }
+        ensures end { OnOk result (has_staged self.old ≡ true →
+            self.new.end ≡ self.old.end + frame_size (staged_frame self.old)) }
         ensures idle { has_staged self.new ≡ is_err result }
-        ensures synced { OnOk result (has_staged self.old ≡ true → IsSynced S.Strip self.new.strip) }
+        ensures synced { OnOk result (has_staged self.old ≡ true →
+            IsSynced S.Strip self.new.strip) }
         ensures ready { is_ready self.new ≡ is_ready self.old }
 
         // A refused one leaves the frames from before, with the new one or without, and keeps it.
         ensures doubt { is_in_doubt self.new ≡ is_err result }
-        ensures either { has_staged self.old ≡ true → OfBytes S.Strip self.new.strip (StandsWithOrWithout S.Strip self.old) }
+        ensures either { has_staged self.old ≡ true →
+            OfBytes S.Strip self.new.strip (StandsWithOrWithout S.Strip self.old) }
         ensures kept { OnErr result (staged_frame self.new ≡ staged_frame self.old) }
         ensures before { OnErr result (HasStanding S.Strip self.new (standing S.Strip self.old)) }
         ensures goes_on { OnErr result (is_written self.old ≡ true → is_written self.new ≡ true) }
-        ensures first { OnErr result (is_written self.new ≡ false → S.calls self.new.strip ≤ S.calls self.old.strip + 2) }
+        ensures first { OnErr result (is_written self.new ≡ false →
+            S.calls self.new.strip ≤ S.calls self.old.strip + 2) }
 
         ensures strip { SameStrip S.Strip 4 self.old.strip self.new.strip }
-        ensures second { is_written self.old ≡ true → S.calls self.new.strip ≤ S.calls self.old.strip + 2 }
+        ensures second { is_written self.old ≡ true →
+            S.calls self.new.strip ≤ S.calls self.old.strip + 2 }
         ensures cause { CauseIn S.Strip self.old.strip self.new.strip result }
     {
         match self.phase {
@@ -281,7 +308,8 @@ impl<S: Strip> Journal<S> {
     fn open_gate(&mut self, alloc: Global) -> Result<(), DeviceError>
         requires { self.old.phase ≡ Gate }
 
-        ensures settled { OnOk result (OfBytes S.Strip self.new.strip (StandsFor (with_staged S.Strip self.old))) }
+        ensures settled { OnOk result
+            (OfBytes S.Strip self.new.strip (StandsFor (with_staged S.Strip self.old))) }
         ensures standing { OnOk result (HasStanding S.Strip self.new (with_staged S.Strip self.old)) }
         ensures synced { OnOk result (IsSynced S.Strip self.new.strip) }
         ensures ready { OnOk result (self.new.phase ≡ Ready) }
@@ -302,9 +330,10 @@ impl<S: Strip> Journal<S> {
         Ok(())
     }
 
-    /// The strip as it stands.
+    /// The strip as it stands. Where the journal is ready and nothing is staged, it stands for the journal's frames.
     pub fn into_strip(self) -> S
-        ensures { result ≡ self.strip }
+        ensures strip { result ≡ self.strip }
+        ensures stands { is_ready self ≡ true → has_staged self ≡ false → OfBytes S.Strip result (StandsFor (standing S.Strip self)) }
     {
         let Journal { strip, .. } = self;
         strip

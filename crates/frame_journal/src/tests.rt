@@ -16,10 +16,7 @@ fn strip_of(alloc: Global, bytes: &[u8], failing: &[u64]) -> Result<MemoryStrip,
     Ok(MemoryStrip::new(alloc, 3, bytes, failing)?)
 }
 
-fn opened(
-    alloc: Global,
-    strip: MemoryStrip,
-) -> Result<(Journal<MemoryStrip>, Vec<Frame>), Fail> {
+fn opened(alloc: Global, strip: MemoryStrip) -> Result<(Journal<MemoryStrip>, Vec<Frame>), Fail> {
     match Journal::open(alloc, strip) {
         Ok(found) => Ok(found),
         Err((_refused, error)) => Err(error)?,

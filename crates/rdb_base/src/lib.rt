@@ -32,3 +32,6 @@ pub use value_error::ValueError;
 
 /// Want of memory, where that is the only refusal.
 pub type NoMemory = std::alloc::AllocError;
+
+#[cfg(test)]
+mod tests;

@@ -23,7 +23,7 @@ use Rattle.remixdb.specs.Scripts.{Conversed, IsWellFormed, EndsWell, EndsBadly, 
 use Rattle.remixdb.proofs.WellFormed.{never_cut, never_refused}
 
 abbrev pub fresh : MapState
-fresh = record { rows = []; number = 0 }
+fresh = record { rows = []; number = 0; log = None }
 
 abbrev pub steady : ℕ → ℕ
 steady device = 0
@@ -47,13 +47,16 @@ held_known held rest (Some more) e = (more, refl, some_is rest (held ++ more) (s
 -- an exchange from the first scene is a conversation
 conversed : (input before : List ℕ) (new : Scene) (asked : List Request) (answered : List Reply) → ((device : ℕ) → new.store.counts device ≡ 0) → Exchange (first_scene input before) new asked answered → (rest : List ℕ) × (new.coming ≡ Some rest) × Conversed input asked answered rest
 conversed input before new asked answered still e =
-    let s = split_known input (spell_requests asked) new.coming e.came in
-    (s.0, s.1, record {
-      fit = e.requests;
-      bytes = s.2;
-      session = map_gives_session fresh new.store.map asked answered e.answers;
-      steady = λ device. omega (arith, e.counts.each device, still device);
-    })
+    let s = split_known input (spell_requests asked) new.coming e.came in (
+      s.0,
+      s.1,
+      record {
+        fit = e.requests;
+        bytes = s.2;
+        session = map_gives_session fresh new.store.map asked answered e.answers;
+        steady = λ device. omega (arith, e.counts.each device, still device);
+      },
+    )
 
 -- ---- by status
 
@@ -102,21 +105,30 @@ ended (Cut at) decided input before new still (held, so, some, lacks, left) =
     let is : c.0 ≡ held = h.2 ∙ ap (λ (t : List ℕ). held ++ t) (none_left new h.0 h.1 left) ∙ append-nil held in
     let there : 0 < length c.0 = omega (arith, ap length is, some) in
     let wants : 0 < wanted c.0 = omega (arith, ap wanted is, lacks) in
-    let after = before ++ spell_replies so.answered in
-    (after, so.exchange.replies, badly input before after (record { requests = so.asked; replies = so.answered; rest = c.0; conversed = c.2; no_quit = so.no_quit; ended = inr (inl (there, wants, refl)) })
-    (λ f short. never_cut input so.asked c.0 f so.exchange.requests so.no_quit c.2.bytes there wants))
+    let after = before ++ spell_replies so.answered in (
+      after,
+      so.exchange.replies,
+      badly input before after (record { requests = so.asked; replies = so.answered; rest = c.0; conversed = c.2; no_quit = so.no_quit; ended = inr (inl (there, wants, refl)) })
+          (λ f short. never_cut input so.asked c.0 f so.exchange.requests so.no_quit c.2.bytes there wants),
+    )
 ended (Bad at code) decided input before new still (held, put, others, so, refused, put_is, count) =
     let c = conversed input before (record new { coming = prepend_known held new.coming; put = put }) so.asked so.answered still so.exchange in
     let h = held_known held c.0 new.coming c.1 in
-    let after = before ++ (spell_replies so.answered ++ spell_reply (BadMessage (length (spell_requests so.asked)) code)) in
-    (after, refusal_put before put new.put so.answered at (length (spell_requests so.asked)) code so.exchange.replies put_is (omega (arith, so.place)), badly input before after (record { requests = so.asked; replies = so.answered; rest = c.0; conversed = c.2; no_quit = so.no_quit; ended = inl (held, h.0, code, h.2, refused, refl) })
-    (λ f short. never_refused input so.asked c.0 held h.0 code f so.exchange.requests so.no_quit c.2.bytes h.2 refused))
+    let after = before ++ (spell_replies so.answered ++ spell_reply (BadMessage (length (spell_requests so.asked)) code)) in (
+      after,
+      refusal_put before put new.put so.answered at (length (spell_requests so.asked)) code so.exchange.replies put_is (omega (arith, so.place)),
+      badly input before after (record { requests = so.asked; replies = so.answered; rest = c.0; conversed = c.2; no_quit = so.no_quit; ended = inl (held, h.0, code, h.2, refused, refl) })
+          (λ f short. never_refused input so.asked c.0 held h.0 code f so.exchange.requests so.no_quit c.2.bytes h.2 refused),
+    )
 ended Spent decided input before new still (held, at, so, full, lacks) =
     let c = conversed input before (record new { coming = prepend_known held new.coming }) so.asked so.answered still so.exchange in
     let h = held_known held c.0 new.coming c.1 in
-    let after = before ++ spell_replies so.answered in
-    (after, so.exchange.replies, badly input before after (record { requests = so.asked; replies = so.answered; rest = c.0; conversed = c.2; no_quit = so.no_quit; ended = inr (inr (held, h.0, h.2, omega (arith, so.place, full), refl)) })
-    (λ f short. absurd (omega (arith, so.place, full, short, ap length c.2.bytes, length-append (spell_requests so.asked) c.0, ap length h.2, length-append held h.0))))
+    let after = before ++ spell_replies so.answered in (
+      after,
+      so.exchange.replies,
+      badly input before after (record { requests = so.asked; replies = so.answered; rest = c.0; conversed = c.2; no_quit = so.no_quit; ended = inr (inr (held, h.0, h.2, omega (arith, so.place, full), refl)) })
+          (λ f short. absurd (omega (arith, so.place, full, short, ap length c.2.bytes, length-append (spell_requests so.asked) c.0, ap length h.2, length-append held h.0))),
+    )
 ended SourceFault decided input before new still (held, at, so) =
     let c = conversed input before (record new { coming = prepend_known held new.coming }) so.asked so.answered still so.exchange in
     let h = held_known held c.0 new.coming c.1 in

@@ -16,7 +16,7 @@ use Rattle.remixdb.specs.Scripts.{EndsWithQuit, IsWellFormed}
 abbrev pub Aligned : List Request → List Request → List ℕ → List ℕ → Type 0
 Aligned asked all more rest =
     ((tail : List Request) × (all ≡ asked ++ tail) × AllByRecursion IsRequest tail × (spell_requests tail ++ rest ≡ more))
-  ⊎ ((tail : List Request) × (asked ≡ all ++ tail) × (rest ≡ spell_requests tail ++ more))
+    ⊎ ((tail : List Request) × (asked ≡ all ++ tail) × (rest ≡ spell_requests tail ++ more))
 
 cons_both : (p q : Request) (ps qs : List Request) → p ≡ q → ps ≡ qs → p ∷ ps ≡ q ∷ qs
 cons_both p q ps qs a b = cc
@@ -75,10 +75,13 @@ never_refused input asked more held rest code well fit no_quit e split refused =
     empty_lacks : (bytes : List ℕ) → bytes ≡ [] → wanted bytes ≡ 0 → ⊥
     empty_lacks [] same whole = omega (arith, whole)
     empty_lacks (b ∷ bytes) same whole = cc
+
     front_none : held ++ rest ≡ [] → held ≡ []
     front_none none = nil_from_length held (omega (arith, ap length none, length-append held rest))
+
     not_both : refusal held ≡ None → refusal held ≡ Some code → ⊥
     not_both a b = let both : None ≡ Some code = sym a ∙ b in cc
+
     by_next : Next more → ⊥
     by_next (inl (request, behind, fits, is)) = not_both (no_refusal request held behind rest fits refused.within refused.whole (sym split ∙ is)) refused.code_is
     by_next (inr none) = empty_lacks held (front_none (sym split ∙ none)) refused.whole

@@ -43,9 +43,9 @@ EndedBy requests replies rest before after =
     -- a message that is in no grammar: its refusal was put, with its place and the code of the first test that it fails
     ((held : List ℕ) × (more : List ℕ) × (code : ℕ) × (rest ≡ held ++ more) × IsRefused held code × (after ≡ before ++ (spell_replies replies ++ spell_reply (BadMessage (length (spell_requests requests)) code))))
     -- the front of a message that the input does not end
-  ⊎ ((0 < length rest) × (0 < wanted rest) × (after ≡ before ++ spell_replies replies))
+    ⊎ ((0 < length rest) × (0 < wanted rest) × (after ≡ before ++ spell_replies replies))
     -- more bytes than a session takes
-  ⊎ ((held : List ℕ) × (more : List ℕ) × (rest ≡ held ++ more) × (length (spell_requests requests) + length held ≡ SESSION_MAX) × (after ≡ before ++ spell_replies replies))
+    ⊎ ((held : List ℕ) × (more : List ℕ) × (rest ≡ held ++ more) × (length (spell_requests requests) + length held ≡ SESSION_MAX) × (after ≡ before ++ spell_replies replies))
 
 -- a script that ended badly: each request before the end was answered
 pub record EndsBadly (input before after : List ℕ) : Type 0 where

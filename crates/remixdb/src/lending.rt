@@ -60,7 +60,9 @@ impl<S: Source + Drop, K: Sink + Drop> Lending<S, K> {
     {
         let source_rise = source_faults - self.source_faults;
         let sink_rise = sink_faults - self.sink_faults;
-        self.faults = self.faults.saturating_add(source_rise.saturating_add(sink_rise));
+        self.faults = self
+            .faults
+            .saturating_add(source_rise.saturating_add(sink_rise));
         self.source_faults = source_faults;
         self.sink_faults = sink_faults;
         self.pair = Some((source, sink));

@@ -14,11 +14,14 @@ mod command;
 mod host;
 mod lending;
 mod map_answers;
+#[cfg(test)]
 mod memory_host;
 mod ordered_map;
 mod outcome;
 mod script;
 mod system_host;
+#[cfg(test)]
+mod tests;
 mod top;
 mod word;
 

@@ -1,4 +1,4 @@
-ghost use Rattle.std.specs.Prelude.{◌≡◌};
+ghost use Rattle.std.specs.Prelude.{◌≡◌, None};
 
 use crate::ordered_map::OrderedMap;
 use rdb_base::{Key, NoMemory, Value};
@@ -11,13 +11,19 @@ pub struct MapAnswers;
 impl Answers for MapAnswers {
     type Pass = OrderedMap;
 
-    ghost map = { λ map. map };
+    ghost map = { λ map. record { rows = map.rows; number = map.number; log = None } };
 
     ghost counts = { λ map device. 0 };
 
     ghost books = { λ device. record { device = device } };
 
-    fn put(&self, _alloc: Global, pass: &mut OrderedMap, key: Key, value: Value) -> Result<u64, UpdateError> {
+    fn put(
+        &self,
+        _alloc: Global,
+        pass: &mut OrderedMap,
+        key: Key,
+        value: Value,
+    ) -> Result<u64, UpdateError> {
         match pass.put(key, value) {
             Ok(number) => Ok(number),
             Err(_) => Err(UpdateError::Memory),

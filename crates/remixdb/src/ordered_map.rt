@@ -1,7 +1,7 @@
-ghost use Rattle.std.specs.Prelude.{◌≡◌, ◌<◌, ◌^◌, [], OnErr, IfOk, option_map};
+ghost use Rattle.std.specs.Prelude.{◌≡◌, ◌+◌, ◌<◌, ◌^◌, [], OnErr, IfOk, option_map};
 ghost use Rattle.std.specs.Option.{option_copied};
-ghost use Rattle.rdb_base.specs.Maps.{value_at};
-ghost use Rattle.session_core.specs.Machines.{put_in};
+ghost use Rattle.rdb_base.specs.Maps.{changed, value_at};
+ghost use Rattle.rdb_base.specs.declared.change.Change.TheVariants as changes;
 
 use rdb_base::{Key, NoMemory, Value};
 use std::alloc::{AllocError, Global};
@@ -16,10 +16,10 @@ pub struct OrderedMap {
 }
 
 impl Model for OrderedMap {
-    ghost use Rattle.session_core.specs.Machines.{MapState};
+    ghost use Rattle.remixdb.specs.MapRows.{MapRows};
     ghost use Rattle.remixdb.specs.Rows.{rows_of};
 
-    ghost Value = { MapState };
+    ghost Value = { MapRows };
 
     ghost view = { λ m. record { rows = rows_of m.values.entries; number = m.number } };
 }
@@ -52,7 +52,7 @@ impl OrderedMap {
     /// Gives the key this value, and answers the update's number.
     pub fn put(&mut self, key: Key, value: Value) -> Result<u64, NoMemory>
         requires { self.old.number < 2 ^ 62 }
-        ensures ok { IfOk result (λ number. (number ≡ self.old.number) × (self.new ≡ put_in self.old key value)) }
+        ensures ok { IfOk result (λ number. (number ≡ self.old.number) × (self.new ≡ record { rows = changed self.old.rows key (changes.Put value); number = self.old.number + 1 })) }
         ensures err { OnErr result (self.new ≡ self.old) }
     {
         let Ok(_) = self.values.insert(key, value) else {

@@ -24,7 +24,8 @@ impl Outcome {
     {
         match end {
             SessionEnd::End | SessionEnd::Quit => Outcome::Done,
-            SessionEnd::Bad { .. } | SessionEnd::Cut { .. } | SessionEnd::Spent => Outcome::BadMessage,
+            SessionEnd::Bad { .. } | SessionEnd::Cut { .. } | SessionEnd::Spent =>
+                Outcome::BadMessage,
             SessionEnd::SourceFault | SessionEnd::SinkFault => Outcome::StreamFailed,
             SessionEnd::Memory => Outcome::OutOfMemory,
         }

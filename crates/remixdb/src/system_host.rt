@@ -17,7 +17,12 @@ pub struct SystemHost {
 
 impl SystemHost {
     /// A host over these standard streams.
-    pub fn new(alloc: Global, stdin: Stdin, stdout: Stdout, stderr: Stderr) -> Result<SystemHost, NoMemory>
+    pub fn new(
+        alloc: Global,
+        stdin: Stdin,
+        stdout: Stdout,
+        stderr: Stderr,
+    ) -> Result<SystemHost, NoMemory>
         ensures home { IfOk result (λ host. lent_of host.streams.pair host.streams.source_faults host.streams.sink_faults ≡ None) }
     {
         let (source, sink) = joined(alloc, stdin, stdout)?;

@@ -1,4 +1,5 @@
 pub mod Machines
+pub mod Refusals
 pub mod Answering
 pub mod Telling
 pub mod Conversations

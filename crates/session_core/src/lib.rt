@@ -30,3 +30,6 @@ pub use session::run_session;
 pub use session_end::SessionEnd;
 pub use session_out::SessionOut;
 pub use update_error::UpdateError;
+
+#[cfg(test)]
+mod tests;

@@ -26,3 +26,6 @@ pub use history_core::{Reply, Request};
 pub use limits::{BODY_MAX, MESSAGE_MAX, REPLY_MAX};
 pub use wire_error::WireError;
 pub use writing::{spell_reply, spell_request};
+
+#[cfg(test)]
+mod tests;

@@ -2,7 +2,7 @@ ghost use Rattle.std.specs.Prelude.{◌≡◌, ◌+◌, ◌≤◌, ◌++◌, ◌
 ghost use Rattle.std.specs.Int.{w64, to_be_bytes};
 ghost use Rattle.wire_protocol.specs.Grammar.{key_field, value_field, row_field, message, spell_request, spell_reply};
 
-use crate::limits::REPLY_MAX;
+use crate::limits::{MESSAGE_MAX, REPLY_MAX};
 use history_core::{Reply, Request};
 use rdb_base::{Key, NoMemory, Row, Value};
 
@@ -31,6 +31,7 @@ fn put_value(out: &mut Vec<u8>, value: &Value) -> Result<(), NoMemory>
 /// Adds the spelling of a request.
 pub fn spell_request(request: &Request, out: &mut Vec<u8>) -> Result<(), NoMemory>
     ensures ok { OnOk result (out.new.items ≡ out.old.items ++ spell_request request.now) }
+    ensures most { length (spell_request request.now) ≤ MESSAGE_MAX }
     ensures room { length out.old.items + length (spell_request request.now) ≤ vec_capacity out.old → IsOk result }
     ensures capacity { vec_capacity out.old ≤ vec_capacity out.new }
 {

@@ -1,8 +1,9 @@
-use Rattle.std.proofs.Common.{arith, ◌≡◌, ◌<◌, sym, subst, refl, ℕ}
+use Rattle.std.proofs.Common.{ap, ◌∙◌, arith, ◌≡◌, ◌<◌, sym, subst, refl, ℕ}
 use Rattle.frame_journal.specs.declared.phase.Phase.{Phase}
+use Rattle.frame_journal.specs.JournalState.{has_staged}
 use Rattle.frame_journal.specs.Frames.{IsClosedAt}
 use Rattle.frame_journal.specs.Journals.{HoldsIn, StagedIn, IsSound}
-use Rattle.frame_journal.proofs.PhaseLemmas.{ready-stands}
+use Rattle.frame_journal.proofs.PhaseLemmas.{ready-stands, stake-in}
 use Rattle.frame_journal.proofs.journal.Journal.begin_clear.Goals as goal
 use Rattle.frame_journal.proofs.journal.Journal.begin_clear.Goals.{then-self-eq0, else-self-eq0}
 
@@ -32,3 +33,9 @@ invariant_of-self g c =
             holds = λ told. let ends = subst (λ (p : Phase). HoldsIn p bytes inside.end inside.staged.items) c.in-Ready.is (old.holds told) in ready-stands bytes inside.end ends.0 ends.1 some;
           })
     ]
+
+pub returns-after-self-eq0-clause-own : goal.returns-after-self-eq0-clause-own
+returns-after-self-eq0-clause-own g c = rw (← c.self.view_is)
+    (λ ready told.
+    let idle = ap has_staged c.self.view_is ∙ c.requires in
+    stake-in c.self.inside.phase (g.S.Strip.content c.self.inside.strip) c.self.inside.end c.self.inside.staged.items ready idle (c.self.invariant.holds told))

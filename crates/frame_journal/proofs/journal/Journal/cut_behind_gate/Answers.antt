@@ -1,8 +1,7 @@
-use Rattle.std.proofs.Common.{ap, subst, ◌∙◌, sym, arith, ◌≡◌, ◌<◌, List, ℕ, length, refl}
+use Rattle.std.proofs.Common.{ap, subst, ◌∙◌, sym, arith, ◌≡◌, refl}
 use Rattle.frame_journal.specs.declared.phase.Phase.{Phase}
 use Rattle.frame_journal.specs.JournalState.{JournalState}
-use Rattle.frame_journal.specs.Frames.{IsClosedAt}
-use Rattle.frame_journal.specs.Journals.{HoldsIn, StagedIn, EndsAt}
+use Rattle.frame_journal.specs.Journals.{HoldsIn, StagedIn}
 use Rattle.frame_journal.proofs.JournalLemmas.{closed_stands_none}
 use Rattle.frame_journal.proofs.PhaseLemmas.{cut-torn, cut-done, ends_at-zero}
 use Rattle.frame_journal.proofs.journal.Journal.cut_behind_gate.Goals as goal

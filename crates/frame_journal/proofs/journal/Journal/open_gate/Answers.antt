@@ -1,4 +1,4 @@
-use Rattle.std.proofs.Common.{ap, inr, subst, ◌∙◌, sym, arith, ◌≡◌, ◌<◌, List, ℕ, length, refl, rules}
+use Rattle.std.proofs.Common.{ap, inr, subst, ◌∙◌, sym, arith, ◌≡◌, length, rules}
 use Rattle.frame_journal.specs.declared.phase.Phase.{Phase}
 use Rattle.frame_journal.specs.JournalState.{JournalState}
 use Rattle.frame_journal.specs.Journals.{HoldsIn, StagedIn}
@@ -43,7 +43,7 @@ invariant_of-self-2 g c =
 
 pub returns-clause-standing : goal.returns-clause-standing
 returns-clause-standing g c = rw (← c.self.view_is)
-  (λ told_after.
+    (λ told_after.
     let told = sym (c.sync.ensures.told.0 ∙ c.write_at.ensures.told.0) ∙ told_after in
     let gate = ap (λ (j : JournalState _). j.phase) c.self.view_is ∙ c.requires in
     let holds = subst (λ (p : Phase). HoldsIn p (g.S.Strip.content c.self.inside.strip) c.self.inside.end c.self.inside.staged.items) gate (c.self.invariant.holds told) in

@@ -1,0 +1,152 @@
+//! Whole sessions over a store of one row: their bytes, their ends, and what their faults leave.
+ghost use Rattle.std.specs.Prelude.{◌≡◌};
+
+mod dripping;
+mod one_row;
+
+use crate::tests::dripping::Dripping;
+use crate::tests::one_row::{OneRow, OneRowPass};
+use crate::{SessionEnd, SessionOut, run_session};
+use disk_model::FaultBook;
+use link_model::{ByteSink, ByteSource, Sink, Source, SteadySink, SteadySource};
+use std::alloc::Global;
+use std::process::Abort;
+use std::test::Fail;
+
+/// PUT a=1, GET a, QUIT.
+const SCRIPT: &[u8] =
+    b"\x00\x00\x00\x09\x01\x00\x01a\x00\x00\x00\x011\x00\x00\x00\x04\x03\x00\x01a\x00\x00\x00\x01\x09";
+
+/// DONE 0, VALUE 1 at front 1, BYE.
+const REPLIES: &[u8] =
+    b"\x00\x00\x00\x09\x81\x00\x00\x00\x00\x00\x00\x00\x00\x00\x00\x00\x0E\x82\x00\x00\x00\x00\x00\x00\x00\x01\x00\x00\x00\x011\x00\x00\x00\x01\x89";
+
+fn serve<R: Source, W: Sink>(
+    alloc: Global,
+    is_failing: bool,
+    source: &mut R,
+    sink: &mut W,
+) -> Result<SessionOut, Fail> {
+    let mut pass = OneRowPass {
+        row: None,
+        number: 0,
+        book: FaultBook::new(alloc, 0)?,
+        is_failing,
+    };
+    Ok(run_session(alloc, &OneRow, &mut pass, source, sink))
+}
+
+/// The session over this input puts this output and ends so, also where its bytes come one at a time.
+fn ends(
+    rt: &(impl Abort + AllocGlobal),
+    input: &[u8],
+    output: &[u8],
+    end: SessionEnd,
+    replies: u64,
+    left: &[u8],
+) -> Result<(), Fail> {
+    let alloc = rt.alloc();
+    let mut source = SteadySource::new(Vec::from_slice(alloc, input)?);
+    let mut sink = SteadySink::new(alloc, 100)?;
+    let out = serve(alloc, false, &mut source, &mut sink)?;
+    assert_eq!(rt; sink.as_bytes(), output);
+    assert_eq!(rt; (out.end, out.replies), (end, replies));
+    assert_eq!(rt; source.remaining(), left);
+
+    let bytes = SteadySource::new(Vec::from_slice(alloc, input)?);
+    let mut source = Dripping { bytes };
+    let mut sink = SteadySink::new(alloc, 100)?;
+    let out = serve(alloc, false, &mut source, &mut sink)?;
+    assert_eq!(rt; sink.as_bytes(), output);
+    assert_eq!(rt; (out.end, out.replies), (end, replies));
+    assert_eq!(rt; source.bytes.remaining(), left);
+    Ok(())
+}
+
+#[test]
+fn a_session_ends_by_quit_or_with_its_input(rt: HostRuntime) -> Result<(), Fail> {
+    let alloc = rt.alloc();
+    ends(&rt, SCRIPT, REPLIES, SessionEnd::Quit, 3, b"")?;
+    ends(&rt, b"", b"", SessionEnd::End, 0, b"")?;
+    ends(
+        &rt,
+        b"\x00\x00\x00\x09\x01",
+        b"",
+        SessionEnd::Cut { at: 0 },
+        0,
+        b"",
+    )?;
+    let mut more = Vec::from_slice(alloc, SCRIPT)?;
+    more.extend_from_slice(b"\x00\x00")?;
+    ends(&rt, &more, REPLIES, SessionEnd::Quit, 3, b"\x00\x00")?;
+    Ok(())
+}
+
+#[test]
+fn a_refused_message_ends_a_session(rt: HostRuntime) -> Result<(), Fail> {
+    let alloc = rt.alloc();
+    let mut long_key = Vec::from_slice(alloc, b"\x00\x00\x04\x09\x01\x04\x01")?;
+    long_key.extend_from_slice(&[0x61; 1025])?;
+    long_key.extend_from_slice(b"\x00\x00\x00\x011")?;
+    for (input, code, left) in [
+        (
+            b"\x00\x00\x00\x08\x01\x00\x00\x00\x00\x00\x011".as_slice(),
+            4,
+            b"".as_slice(),
+        ),
+        (long_key.as_slice(), 4, b""),
+        (b"\x00\x01\x04\x07\x01", 1, b"\x01"),
+        (b"\x00\x00\x00\x01\x10", 2, b""),
+        (b"\x00\x00\x00\x02\x03\x00", 3, b""),
+    ] {
+        let output = [0, 0, 0, 10, 0xE1, 0, 0, 0, 0, 0, 0, 0, 0, code];
+        ends(
+            &rt,
+            input,
+            &output,
+            SessionEnd::Bad { at: 0, code },
+            1,
+            left,
+        )?;
+    }
+    Ok(())
+}
+
+#[test]
+fn a_failed_device_is_told_with_one_unit(rt: HostRuntime) -> Result<(), Fail> {
+    let alloc = rt.alloc();
+    let mut source = SteadySource::new(Vec::from_slice(alloc, SCRIPT)?);
+    let mut sink = SteadySink::new(alloc, 100)?;
+    let out = serve(alloc, true, &mut source, &mut sink)?;
+    let want =
+        b"\x00\x00\x00\x02\xE4\x00\x00\x00\x00\x09\x83\x00\x00\x00\x00\x00\x00\x00\x00\x00\x00\x00\x01\x89";
+    assert_eq!(rt; sink.as_bytes(), want.as_slice());
+    assert_eq!(rt; (out.end, out.replies), (SessionEnd::Quit, 3));
+    assert_eq!(rt; (out.faults.count(0), out.faults.count(1)), (1, 0));
+    Ok(())
+}
+
+#[test]
+fn a_failed_put_ends_a_session_behind_a_front_of_the_replies(rt: HostRuntime) -> Result<(), Fail> {
+    let alloc = rt.alloc();
+    for (room, failing, len, replies) in [(100, 1, 13, 2), (10, 9, 10, 1), (100, 3, 36, 3)] {
+        let mut source = SteadySource::new(Vec::from_slice(alloc, SCRIPT)?);
+        let mut sink = ByteSink::new(alloc, room, Vec::from_slice(alloc, &[failing])?)?;
+        let out = serve(alloc, false, &mut source, &mut sink)?;
+        assert_eq!(rt; Some(sink.as_bytes()), REPLIES.get(..len));
+        assert_eq!(rt; (out.end, out.replies), (SessionEnd::SinkFault, replies));
+    }
+    Ok(())
+}
+
+#[test]
+fn a_failed_take_ends_a_session(rt: HostRuntime) -> Result<(), Fail> {
+    let alloc = rt.alloc();
+    let bytes = Vec::from_slice(alloc, SCRIPT)?;
+    let mut source = ByteSource::new(bytes, Vec::from_slice(alloc, &[2])?);
+    let mut sink = SteadySink::new(alloc, 100)?;
+    let out = serve(alloc, false, &mut source, &mut sink)?;
+    assert_eq!(rt; Some(sink.as_bytes()), REPLIES.get(..13));
+    assert_eq!(rt; (out.end, out.replies), (SessionEnd::SourceFault, 1));
+    Ok(())
+}
