@@ -1,5 +1,5 @@
 //! A store with room for one row.
-ghost use Rattle.std.specs.Prelude.{◌≡◌, ◌<◌, ◌^◌, [], ◌∷◌, ◌==◌, if◌then◌else◌, unwrap_or, option_map};
+ghost use Rattle.std.specs.Prelude.{◌≡◌, ◌<◌, ◌^◌, [], ◌∷◌, ◌==◌, if◌then◌else◌, unwrap_or, option_map, None};
 ghost use Rattle.session_core.specs.Answering.{PutAnswer, PutCause, GetAnswer, SameCounts};
 
 use crate::{Answers, Found, UpdateError};
@@ -23,7 +23,7 @@ pub struct OneRowPass {
 impl Answers for OneRow {
     type Pass = OneRowPass;
 
-    ghost map = { λ pass. record { rows = unwrap_or (option_map (λ row. row ∷ []) pass.row) []; number = pass.number } };
+    ghost map = { λ pass. record { rows = unwrap_or (option_map (λ row. row ∷ []) pass.row) []; number = pass.number; log = None } };
 
     ghost counts = { λ pass device. if device == 0 then pass.book.count else 0 };
 

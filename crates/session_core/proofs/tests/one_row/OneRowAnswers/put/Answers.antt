@@ -3,7 +3,7 @@ use Rattle.std.proofs.Common.{◌≡◌, ◌≢◌, ◌==◌, ◌∙◌, ℕ, if
 use Rattle.std.specs.Prelude.{Result, Err}
 use Rattle.disk_model.specs.Books.{BookName, one_more}
 use Rattle.session_core.specs.declared.update_error.UpdateError.{UpdateError}
-use Rattle.session_core.specs.declared.update_error.UpdateError.TheVariants.{DeviceFault, Memory}
+use Rattle.session_core.specs.declared.update_error.UpdateError.TheVariants.{DeviceFault}
 use Rattle.session_core.specs.Answering.{PutCause}
 use Rattle.session_core.proofs.tests.one_row.OneRowAnswers.put.Goals as goal
 use Rattle.session_core.proofs.tests.one_row.OneRowAnswers.put.Goals.{in-Fault, in-Memory}
