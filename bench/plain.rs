@@ -70,7 +70,11 @@ impl<'a> Fields<'a> {
     }
 
     fn finish(self) -> Result<(), End> {
-        if self.0.is_empty() { Ok(()) } else { Err(End::Bad(7)) }
+        if self.0.is_empty() {
+            Ok(())
+        } else {
+            Err(End::Bad(7))
+        }
     }
 }
 
