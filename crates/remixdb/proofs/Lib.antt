@@ -1,4 +1,6 @@
 pub mod RowLemmas
 pub mod Rising
+pub mod Logging
 pub mod WellFormed
 pub mod Scripting
+pub mod Failing

@@ -1,11 +1,11 @@
 //! RemixDB: an ordered key-value store. One session from standard input to standard output.
 //!
 //! Stands for   `remixdb(words, host) -> status` (`src/top.rt`)
-//! Promises     the bytes put are the replies that one ordered map gives to the requests that came; each status has
-//!              its cause (`specs/Scripts.antt`)
-//! Goes in      the words of a command line, and a host: a source, a sink, a place for notes
+//! Promises     the bytes put are the replies that one ordered map gives to the requests that came; the strip's log holds
+//!              each accepted update once, in order; each status has its cause (`specs/Scripts.antt`)
+//! Goes in      the words of a command line, and a host: a strip, a source, a sink, a place for notes
 //! Comes out    a status, and a line for each status but 0
-//! Stands on    session_core, wire_protocol, link_model
+//! Stands on    session_core, frame_journal, disk_model, link_model, wire_protocol, history_core, rdb_base
 //! Used by      people and programs
 //! Leaves open  what the standard streams hold
 #![tactic(auto)]
@@ -13,12 +13,14 @@
 mod command;
 mod host;
 mod lending;
-mod map_answers;
+mod log_answers;
+mod logged_map;
 #[cfg(test)]
 mod memory_host;
 mod ordered_map;
 mod outcome;
 mod script;
+mod strip_lending;
 mod system_host;
 #[cfg(test)]
 mod tests;
@@ -31,7 +33,7 @@ use crate::word::Word;
 use std::env;
 use std::process::ExitCode;
 
-/// The words after the program's name. None is told where the system gives none or one is no text.
+/// The words after the program's name. None where the system gives none, one is no text, or memory is refused.
 fn words_of(rt: &HostRuntime) -> Option<Vec<Word>> {
     let mut words = Vec::new(rt.alloc());
     let Ok(args) = env::args(rt) else {

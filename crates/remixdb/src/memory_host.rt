@@ -1,29 +1,45 @@
 ghost use Rattle.std.specs.Prelude.{◌≡◌, None};
-ghost use Rattle.remixdb.specs.Lent.{lent_of};
+ghost use Rattle.remixdb.specs.Lent.{lent_of, lent_strip_of, bytes_at_home};
+ghost use Rattle.disk_model.specs.MemoryState.{content_of};
 ghost use Rattle.remixdb.specs.Told.{told_input, told_output};
 
 use crate::host::Host;
 use crate::lending::Lending;
+use crate::strip_lending::StripLending;
+use disk_model::{MemoryStrip, Strip};
 use link_model::{ByteSink, ByteSource};
 use std::alloc::Global;
 
-/// A host in memory: its streams tell their bytes, and its notes are kept.
+/// A host in memory: its strip and its streams tell their bytes, and its notes are kept.
 #[derive(Drop)]
 pub struct MemoryHost {
+    strip: StripLending<MemoryStrip>,
     streams: Lending<ByteSource, ByteSink>,
     notes: Vec<u8>,
 }
 
 impl MemoryHost {
-    /// A host with these streams and no notes yet.
-    pub fn new(alloc: Global, source: ByteSource, sink: ByteSink) -> MemoryHost
+    /// A host with this strip, which is device 0, these streams, and no notes yet.
+    pub fn new(alloc: Global, strip: MemoryStrip, source: ByteSource, sink: ByteSink) -> MemoryHost
+        requires { strip.book.name.device ≡ 0 }
+        ensures strip_home { lent_strip_of result.strip.strip result.strip.strip_faults ≡ None }
         ensures home { lent_of result.streams.pair result.streams.source_faults result.streams.sink_faults ≡ None }
     {
+        let strip_faults = strip.faults();
         let source_faults = source.faults();
         let sink_faults = sink.faults();
         MemoryHost {
+            strip: StripLending::new(strip, strip_faults),
             streams: Lending::new(source, sink, source_faults, sink_faults),
             notes: Vec::new(alloc),
+        }
+    }
+
+    /// The bytes of the strip, while it is at home.
+    pub fn strip_bytes(&self) -> Option<&[u8]> {
+        match &self.strip.strip {
+            Some(strip) => Some(strip.as_bytes()),
+            None => None,
         }
     }
 
@@ -50,9 +66,17 @@ impl MemoryHost {
 }
 
 impl Host for MemoryHost {
+    type Strip = MemoryStrip;
+
     type In = ByteSource;
 
     type Out = ByteSink;
+
+    ghost strip_bytes = { λ h. bytes_at_home ⟦<MemoryStrip as Strip>⟧ h.strip.strip };
+
+    ghost lent_strip = { λ h. lent_strip_of h.strip.strip h.strip.strip_faults };
+
+    ghost device_faults = { λ h. h.strip.faults };
 
     ghost input = { λ h. told_input h.streams.pair };
 
@@ -61,6 +85,15 @@ impl Host for MemoryHost {
     ghost lent = { λ h. lent_of h.streams.pair h.streams.source_faults h.streams.sink_faults };
 
     ghost stream_faults = { λ h. h.streams.faults };
+
+    fn strip(&mut self) -> MemoryStrip {
+        self.strip.lend()
+    }
+
+    fn give_back(&mut self, strip: MemoryStrip) {
+        let strip_faults = strip.faults();
+        self.strip.take_back(strip, strip_faults);
+    }
 
     fn streams(&mut self) -> (ByteSource, ByteSink) {
         self.streams.lend()

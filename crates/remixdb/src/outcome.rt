@@ -1,7 +1,11 @@
 ghost use Rattle.std.specs.Prelude.{◌≡◌};
-ghost use Rattle.remixdb.specs.Outcomes.{status_of, outcome_of_end};
+ghost use Rattle.remixdb.specs.Outcomes.{status_of, outcome_of_end, failed_of, short_of, least_of, outcome_of_run, outcome_of_refusal};
 
+use disk_model::DeviceError;
+use frame_journal::JournalError;
+use rdb_base::NoMemory;
 use session_core::SessionEnd;
+use std::alloc::Global;
 
 /// What came of a run of the program. Each has a status, and each but the first a line for the notes.
 #[derive(Clone, Copy, Debug, PartialEq, Eq)]
@@ -11,15 +15,49 @@ pub enum Outcome {
     BadMessage,
     /// The words are not in the stated form.
     UnknownWords,
+    /// The strip is no journal: a header is torn at this place.
+    TornHeader { at: u64 },
+    /// A device failed, of all that did the one with the least number.
+    DeviceFailed { device: u8 },
     /// A stream failed.
     StreamFailed,
     /// Memory was refused, and no reply could say so.
     OutOfMemory,
 }
 
+fn failed_device(call: &Result<(), DeviceError>) -> Option<u8>
+    ensures { result ≡ failed_of call.now }
+{
+    match call {
+        Ok(()) => None,
+        Err(DeviceError::Fault(unit)) => Some(unit.device()),
+        Err(DeviceError::Memory) => None,
+    }
+}
+
+fn is_short(call: &Result<(), DeviceError>) -> bool
+    ensures { result ≡ short_of call.now }
+{
+    match call {
+        Ok(()) => false,
+        Err(DeviceError::Fault(_)) => false,
+        Err(DeviceError::Memory) => true,
+    }
+}
+
+fn least(one: Option<u8>, other: Option<u8>) -> Option<u8>
+    ensures { result ≡ least_of one other }
+{
+    match (one, other) {
+        (None, other) => other,
+        (Some(one), None) => Some(one),
+        (Some(one), Some(other)) => Some(one.min(other)),
+    }
+}
+
 impl Outcome {
     /// What came of a session that ended so.
-    pub(crate) fn of_end(end: SessionEnd) -> Outcome
+    fn of_end(end: SessionEnd) -> Outcome
         ensures { result ≡ outcome_of_end end }
     {
         match end {
@@ -31,6 +69,37 @@ impl Outcome {
         }
     }
 
+    /// What came of a run, by what opening's clear, the session's replies and the closing settle told.
+    pub(crate) fn of_run(
+        cleared: &Result<(), DeviceError>,
+        told: Option<u8>,
+        settled: &Result<(), DeviceError>,
+        end: SessionEnd,
+    ) -> Outcome
+        ensures { result ≡ outcome_of_run cleared.now told settled.now end }
+    {
+        if is_short(cleared) || is_short(settled) || end == SessionEnd::Memory {
+            return Outcome::OutOfMemory;
+        }
+        match least(failed_device(cleared), least(told, failed_device(settled))) {
+            Some(device) => Outcome::DeviceFailed { device },
+            None => Outcome::of_end(end),
+        }
+    }
+
+    /// What came of an opening that was refused.
+    pub(crate) fn of_refusal(error: &JournalError) -> Outcome
+        ensures { result ≡ outcome_of_refusal error.now }
+    {
+        match error {
+            JournalError::Fault(unit) => Outcome::DeviceFailed {
+                device: unit.device(),
+            },
+            JournalError::TornHeader { at } => Outcome::TornHeader { at: *at },
+            JournalError::Memory => Outcome::OutOfMemory,
+        }
+    }
+
     /// The status that the program ends with.
     pub fn status(self) -> u8
         ensures { result ≡ status_of self }
@@ -39,19 +108,34 @@ impl Outcome {
             Outcome::Done => 0,
             Outcome::BadMessage => 1,
             Outcome::UnknownWords => 2,
+            Outcome::TornHeader { .. } => 3,
+            Outcome::DeviceFailed { .. } => 4,
             Outcome::StreamFailed => 5,
             Outcome::OutOfMemory => 6,
         }
     }
 
     /// Its line for the notes, if it has one.
-    pub fn line(self) -> Option<&'static [u8]> {
-        match self {
-            Outcome::Done => None,
-            Outcome::BadMessage => Some(b"remixdb: session ended by a bad message\n"),
-            Outcome::UnknownWords => Some(b"remixdb: words are not in the stated form\n"),
-            Outcome::StreamFailed => Some(b"remixdb: stream failed\n"),
-            Outcome::OutOfMemory => Some(b"remixdb: out of memory\n"),
-        }
+    pub fn line(self, alloc: Global) -> Result<Option<String>, NoMemory> {
+        let line = match self {
+            Outcome::Done => return Ok(None),
+            Outcome::BadMessage => String::from_str(
+                alloc,
+                "remixdb: session ended by a bad message\n",
+            )?,
+            Outcome::UnknownWords => String::from_str(
+                alloc,
+                "remixdb: words are not in the stated form\n",
+            )?,
+            Outcome::TornHeader { at } => {
+                format!(in alloc; "remixdb: devices refused: TornHeader strip 0 at {at}\n")?
+            }
+            Outcome::DeviceFailed { device } => format!(in alloc;
+                "remixdb: device {device} failed\n"
+            )?,
+            Outcome::StreamFailed => String::from_str(alloc, "remixdb: stream failed\n")?,
+            Outcome::OutOfMemory => String::from_str(alloc, "remixdb: out of memory\n")?,
+        };
+        Ok(Some(line))
     }
 }

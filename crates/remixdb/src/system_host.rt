@@ -1,16 +1,20 @@
 ghost use Rattle.std.specs.Prelude.{◌≡◌, None, IfOk};
-ghost use Rattle.remixdb.specs.Lent.{lent_of};
+ghost use Rattle.remixdb.specs.Lent.{lent_of, lent_strip_of, bytes_at_home};
 
 use crate::host::Host;
 use crate::lending::Lending;
+use crate::strip_lending::StripLending;
+use disk_model::{SteadyStrip, Strip};
 use link_model::{ReaderSource, WriterSink, joined};
 use rdb_base::NoMemory;
 use std::alloc::Global;
 use std::io::{Stderr, Stdin, Stdout, Write};
 
-/// The host of a process: its standard streams, which tell nothing, and standard error for its notes.
+/// The host of a process: a strip in memory, its standard streams, which tell nothing, and standard error for its
+/// notes.
 #[derive(Drop)]
 pub struct SystemHost {
+    strip: StripLending<SteadyStrip>,
     streams: Lending<ReaderSource<Stdin, Stdout>, WriterSink<Stdout>>,
     notes: Stderr,
 }
@@ -23,10 +27,12 @@ impl SystemHost {
         stdout: Stdout,
         stderr: Stderr,
     ) -> Result<SystemHost, NoMemory>
+        ensures strip_home { IfOk result (λ host. lent_strip_of host.strip.strip host.strip.strip_faults ≡ None) }
         ensures home { IfOk result (λ host. lent_of host.streams.pair host.streams.source_faults host.streams.sink_faults ≡ None) }
     {
         let (source, sink) = joined(alloc, stdin, stdout)?;
         Ok(SystemHost {
+            strip: StripLending::new(SteadyStrip::new(alloc, 0), 0),
             streams: Lending::new(source, sink, 0, 0),
             notes: stderr,
         })
@@ -34,9 +40,17 @@ impl SystemHost {
 }
 
 impl Host for SystemHost {
+    type Strip = SteadyStrip;
+
     type In = ReaderSource<Stdin, Stdout>;
 
     type Out = WriterSink<Stdout>;
+
+    ghost strip_bytes = { λ h. bytes_at_home ⟦<SteadyStrip as Strip>⟧ h.strip.strip };
+
+    ghost lent_strip = { λ h. lent_strip_of h.strip.strip h.strip.strip_faults };
+
+    ghost device_faults = { λ h. h.strip.faults };
 
     ghost input = { λ _. None };
 
@@ -45,6 +59,14 @@ impl Host for SystemHost {
     ghost lent = { λ h. lent_of h.streams.pair h.streams.source_faults h.streams.sink_faults };
 
     ghost stream_faults = { λ h. h.streams.faults };
+
+    fn strip(&mut self) -> SteadyStrip {
+        self.strip.lend()
+    }
+
+    fn give_back(&mut self, strip: SteadyStrip) {
+        self.strip.take_back(strip, 0);
+    }
 
     fn streams(&mut self) -> (ReaderSource<Stdin, Stdout>, WriterSink<Stdout>) {
         self.streams.lend()
