@@ -15,7 +15,6 @@ mod host;
 mod lending;
 mod log_answers;
 mod logged_map;
-#[cfg(test)]
 mod memory_host;
 mod ordered_map;
 mod outcome;

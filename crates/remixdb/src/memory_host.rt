@@ -1,4 +1,5 @@
-ghost use Rattle.std.specs.Prelude.{◌≡◌, None};
+ghost use Rattle.std.specs.Prelude.{◌≡◌, [], Some, None};
+ghost use Rattle.std.specs.Option.{option_copied};
 ghost use Rattle.remixdb.specs.Lent.{lent_of, lent_strip_of, bytes_at_home};
 ghost use Rattle.disk_model.specs.MemoryState.{content_of};
 ghost use Rattle.remixdb.specs.Told.{told_input, told_output};
@@ -22,8 +23,9 @@ impl MemoryHost {
     /// A host with this strip, which is device 0, these streams, and no notes yet.
     pub fn new(alloc: Global, strip: MemoryStrip, source: ByteSource, sink: ByteSink) -> MemoryHost
         requires { strip.book.name.device ≡ 0 }
-        ensures strip_home { lent_strip_of result.strip.strip result.strip.strip_faults ≡ None }
-        ensures home { lent_of result.streams.pair result.streams.source_faults result.streams.sink_faults ≡ None }
+        ensures strip { result.strip.strip ≡ Some strip }
+        ensures streams { result.streams.pair ≡ Some (source, sink) }
+        ensures notes { result.notes.items ≡ [] }
     {
         let strip_faults = strip.faults();
         let source_faults = source.faults();
@@ -36,7 +38,9 @@ impl MemoryHost {
     }
 
     /// The bytes of the strip, while it is at home.
-    pub fn strip_bytes(&self) -> Option<&[u8]> {
+    pub fn strip_bytes(&self) -> Option<&[u8]>
+        ensures { option_copied result ≡ bytes_at_home ⟦<MemoryStrip as Strip>⟧ self.now.strip.strip }
+    {
         match &self.strip.strip {
             Some(strip) => Some(strip.as_bytes()),
             None => None,
@@ -44,7 +48,9 @@ impl MemoryHost {
     }
 
     /// The bytes that were put, while the streams are at home.
-    pub fn output(&self) -> Option<&[u8]> {
+    pub fn output(&self) -> Option<&[u8]>
+        ensures { option_copied result ≡ told_output self.now.streams.pair }
+    {
         match &self.streams.pair {
             Some((_, sink)) => Some(sink.as_bytes()),
             None => None,
@@ -52,7 +58,9 @@ impl MemoryHost {
     }
 
     /// The bytes that were not taken, while the streams are at home.
-    pub fn remaining(&self) -> Option<&[u8]> {
+    pub fn remaining(&self) -> Option<&[u8]>
+        ensures { option_copied result ≡ told_input self.now.streams.pair }
+    {
         match &self.streams.pair {
             Some((source, _)) => Some(source.remaining()),
             None => None,
@@ -60,7 +68,9 @@ impl MemoryHost {
     }
 
     /// The lines that were noted.
-    pub fn notes(&self) -> &[u8] {
+    pub fn notes(&self) -> &[u8]
+        ensures { result.now ≡ self.now.notes.items }
+    {
         self.notes.as_slice()
     }
 }
