@@ -1,0 +1,169 @@
+//! What a run is given, what it must come to, and the run.
+ghost use Rattle.std.specs.Prelude.{◌≡◌, ◌<◌, None, IfOk};
+
+use crate::host::Host;
+use crate::memory_host::MemoryHost;
+use crate::tests::piece_host::PieceHost;
+use crate::tests::samples::BAD;
+use crate::top::remixdb;
+use crate::word::Word;
+use disk_model::MemoryStrip;
+use link_model::{ByteSink, ByteSource};
+use std::process::Abort;
+use std::test::Fail;
+
+/// What a run is given beside its words.
+#[derive(Clone, Copy)]
+pub struct Given<'a> {
+    pub strip: &'a [u8],
+    pub device_fails: &'a [u64],
+    pub input: &'a [u8],
+    pub source_fails: &'a [u64],
+    pub room: u64,
+    pub sink_fails: &'a [u64],
+}
+
+impl<'a> Given<'a> {
+    /// This input, an empty strip, ample room, and no call that fails.
+    pub fn input(input: &'a [u8]) -> Given<'a> {
+        Given {
+            strip: &[],
+            device_fails: &[],
+            input,
+            source_fails: &[],
+            room: 200_000,
+            sink_fails: &[],
+        }
+    }
+}
+
+/// What a run must come to: its status, what was put, what was not taken, the strip, and the notes.
+#[derive(Clone, Copy)]
+pub struct Wanted<'a> {
+    pub status: u8,
+    pub output: &'a [u8],
+    pub left: &'a [u8],
+    pub strip: &'a [u8],
+    pub notes: &'a [u8],
+}
+
+fn words_of(rt: &(impl Abort + AllocGlobal), words: &[&str]) -> Result<Vec<Word>, Fail> {
+    let mut all = Vec::new(rt.alloc());
+    for word in words {
+        all.push(Word::try_new(rt.alloc(), word)?)?;
+    }
+    Ok(all)
+}
+
+fn host_of(rt: &(impl Abort + AllocGlobal), given: Given) -> Result<MemoryHost, Fail>
+    ensures streams { IfOk result (λ host. ⟦<MemoryHost as Host>⟧.lent host ≡ None) }
+    ensures strip { IfOk result (λ host. ⟦<MemoryHost as Host>⟧.lent_strip host ≡ None) }
+{
+    let alloc = rt.alloc();
+    let source = ByteSource::new(
+        Vec::from_slice(alloc, given.input)?,
+        Vec::from_slice(alloc, given.source_fails)?,
+    );
+    let sink = ByteSink::new(alloc, given.room, Vec::from_slice(alloc, given.sink_fails)?)?;
+    let strip = MemoryStrip::new(
+        alloc,
+        0,
+        Vec::from_slice(alloc, given.strip)?,
+        Vec::from_slice(alloc, given.device_fails)?,
+    )?;
+    Ok(MemoryHost::new(alloc, strip, source, sink))
+}
+
+fn came_to(
+    rt: &(impl Abort + AllocGlobal),
+    host: &MemoryHost,
+    status: u8,
+    wanted: Wanted,
+) -> Result<(), Fail> {
+    assert_eq!(rt; status, wanted.status);
+    assert_eq!(rt; host.output().ok_or("the streams are out")?, wanted.output);
+    assert_eq!(rt; host.remaining().ok_or("the streams are out")?, wanted.left);
+    assert_eq!(rt; host.strip_bytes().ok_or("the strip is out")?, wanted.strip);
+    assert_eq!(rt; host.notes(), wanted.notes);
+    Ok(())
+}
+
+/// A run with these words comes to this.
+pub fn run(
+    rt: &(impl Abort + AllocGlobal),
+    words: &[&str],
+    given: Given,
+    wanted: Wanted,
+) -> Result<(), Fail> {
+    let words = words_of(rt, words)?;
+    let mut host = host_of(rt, given)?;
+    let status = remixdb(rt.alloc(), &words, &mut host);
+    came_to(rt, &host, status, wanted)
+}
+
+fn run_in_pieces(
+    rt: &(impl Abort + AllocGlobal),
+    given: Given,
+    wanted: Wanted,
+    most: usize,
+) -> Result<(), Fail>
+    requires { 0 < most }
+{
+    let words = words_of(rt, &["script", "mem"])?;
+    let mut host = PieceHost {
+        host: host_of(rt, given)?,
+        most,
+    };
+    let status = remixdb(rt.alloc(), &words, &mut host);
+    came_to(rt, &host.host, status, wanted)
+}
+
+/// A session comes to this, whether its input comes whole or in pieces.
+pub fn script(rt: &(impl Abort + AllocGlobal), given: Given, wanted: Wanted) -> Result<(), Fail> {
+    run(rt, &["script", "mem"], given, wanted)?;
+    run_in_pieces(rt, given, wanted, 1)?;
+    run_in_pieces(rt, given, wanted, 3)?;
+    run_in_pieces(rt, given, wanted, 7)
+}
+
+/// Pieces, one behind the other.
+pub fn joined(rt: &(impl Abort + AllocGlobal), pieces: &[&[u8]]) -> Result<Vec<u8>, Fail> {
+    let mut all = Vec::new(rt.alloc());
+    for piece in pieces {
+        all.extend_from_slice(piece)?;
+    }
+    Ok(all)
+}
+
+/// A strip as a journal leaves it: a frame with the updates that were accepted, or none.
+pub fn journal_of(rt: &(impl Abort + AllocGlobal), updates: &[&[u8]]) -> Result<Vec<u8>, Fail> {
+    let payload = joined(rt, updates)?;
+    if payload.is_empty() {
+        return joined(rt, &[&[0]]);
+    }
+    let len = u32::try_from(payload.len())?;
+    joined(rt, &[&[0xA5], &len.to_be_bytes(), &payload, &[0]])
+}
+
+/// A session over streams and a strip that do not fail ends with this status, does not take what is left of its input,
+/// puts this output, and logs these updates.
+pub fn ends_with(
+    rt: &(impl Abort + AllocGlobal),
+    status: u8,
+    input: &[&[u8]],
+    left: &[u8],
+    output: &[&[u8]],
+    updates: &[&[u8]],
+) -> Result<(), Fail> {
+    let input = joined(rt, input)?;
+    let output = joined(rt, output)?;
+    let strip = journal_of(rt, updates)?;
+    let wanted = Wanted {
+        status,
+        output: &output,
+        left,
+        strip: &strip,
+        notes: if status == 0 { b"" } else { BAD },
+    };
+    script(rt, Given::input(&input), wanted)
+}
