@@ -116,7 +116,7 @@ impl Outcome {
     }
 
     /// Its line for the notes, if it has one.
-    pub fn line(self, alloc: Global) -> Result<Option<String>, NoMemory> {
+    pub(crate) fn line(self, alloc: Global) -> Result<Option<String>, NoMemory> {
         let line = match self {
             Outcome::Done => return Ok(None),
             Outcome::BadMessage => String::from_str(
