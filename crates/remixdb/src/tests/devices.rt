@@ -7,40 +7,6 @@ use crate::tests::samples::{BYE, DEVICE_0, DONE_0, PUT, QUIT};
 use std::test::Fail;
 
 #[test]
-fn a_failed_gate_refuses_the_put_that_settles(rt: HostRuntime) -> Result<(), Fail> {
-    let alloc = rt.alloc();
-    let value = vec![in alloc; 0x76u8; 65_535]?;
-    let put = joined(
-        &rt,
-        &[&[0, 1, 0, 7, 1, 0, 1, 0x61, 0, 0, 0xFF, 0xFF], &value],
-    )?;
-    let done = |number: u8| [0, 0, 0, 9, 0x81, 0, 0, 0, 0, 0, 0, 0, number];
-    let four = joined(&rt, &[&put, &put, &put, &put])?;
-    let input = joined(&rt, &[&four, PUT, PUT, QUIT])?;
-    let fault: &[u8] = &[0, 0, 0, 2, 0xE4, 0];
-    let output = joined(
-        &rt,
-        &[&done(0), &done(1), &done(2), &done(3), fault, &done(4), BYE],
-    )?;
-    // 262,188 bytes in the first frame, and the PUT that was taken in the second.
-    let first: &[u8] = &[0xA5, 0, 4, 0, 0x2C];
-    let second: &[u8] = &[0xA5, 0, 0, 0, 13];
-    let strip = joined(&rt, &[first, &four, second, PUT, &[0]])?;
-    let given = Given {
-        device_fails: &[9],
-        ..Given::input(&input)
-    };
-    let wanted = Wanted {
-        status: 4,
-        output: &output,
-        left: &[],
-        strip: &strip,
-        notes: DEVICE_0,
-    };
-    script(&rt, given, wanted)
-}
-
-#[test]
 fn a_failing_device_is_told(rt: HostRuntime) -> Result<(), Fail> {
     let written = joined(&rt, &[&[0, 0, 0, 0, 13], PUT, &[0]])?;
     let one = journal_of(&rt, &[PUT])?;

@@ -1,6 +1,6 @@
 //! Streams that fail.
-use crate::tests::running::{Given, Wanted, journal_of, run};
-use crate::tests::samples::{DONE_0, FAILED, GET, PUT};
+use crate::tests::running::{Given, Wanted, journal_of, run, script};
+use crate::tests::samples::{BYE, DONE_0, FAILED, GET, PUT, QUIT, bad_message};
 use std::test::Fail;
 
 #[test]
@@ -32,6 +32,36 @@ fn a_failing_stream_is_told(rt: HostRuntime) -> Result<(), Fail> {
             notes: FAILED,
         };
         run(&rt, &["script", "mem"], given, wanted)?;
+    }
+    Ok(())
+}
+
+#[test]
+fn a_sink_that_fails_when_all_is_passed_on_is_told(rt: HostRuntime) -> Result<(), Fail> {
+    let none = journal_of(&rt, &[])?;
+    let one = journal_of(&rt, &[PUT])?;
+    let refusal = bad_message(0, 2);
+    // The last put, behind the replies, is of an empty piece, whichever way the session ended.
+    let cases: &[(&[u8], &[u64], &[u8], &[u8])] = &[
+        (&[], &[0], &[], &none),
+        (PUT, &[1], DONE_0, &one),
+        (QUIT, &[1], BYE, &none),
+        (&[0, 0, 0, 1, 0x10], &[1], &refusal, &none),
+        (&[0, 0, 0, 9, 1], &[0], &[], &none),
+    ];
+    for (input, sink_fails, output, strip) in cases {
+        let given = Given {
+            sink_fails,
+            ..Given::input(input)
+        };
+        let wanted = Wanted {
+            status: 5,
+            output,
+            left: &[],
+            strip,
+            notes: FAILED,
+        };
+        script(&rt, given, wanted)?;
     }
     Ok(())
 }
