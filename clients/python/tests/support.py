@@ -32,7 +32,7 @@ class Ended(NamedTuple):
     notes: bytes
 
 
-def run_program(sent: bytes, *words: str) -> Ended:
+def run_program(sent: bytes, *words: Union[str, bytes]) -> Ended:
     """Runs the program on an input that is there at once."""
     run = subprocess.run(
         [program_path(), *words],

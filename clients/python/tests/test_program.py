@@ -261,6 +261,14 @@ class Words(unittest.TestCase):
     def test_an_empty_word_is_a_word(self) -> None:
         self.assertEqual(run_program(PUT_A, "script", "mem", ""), Ended(2, b"", WORDS_NOTE))
 
+    def test_a_word_that_is_no_text_is_refused_without_a_note(self) -> None:
+        # The system hands words over as bytes. These are no UTF-8: a lone byte, an overlong
+        # letter, half of a pair.
+        for word in (b"\xff", b"mem\xff", b"\xc1\xad", b"\xed\xa0\x80"):
+            for words in (("script", word), (word, "mem"), ("script", "mem", word)):
+                with self.subTest(words=words):
+                    self.assertEqual(run_program(PUT_A, *words), Ended(2, b"", b""))
+
     def test_the_program_runs_from_any_folder_and_through_a_link(self) -> None:
         with tempfile.TemporaryDirectory() as folder:
             link = os.path.join(folder, "store")
