@@ -1,27 +1,25 @@
--- What the status of a script says of the counts of faults. To know: `failed_rose`, `clean_kept`, `stream_ended`.
+-- What the status of a script says of the counts of faults. To know: `failed_rose`, `clean_kept`, `all_told`, `stream_ended`, `source_unclean`.
 use Rattle.std.proofs.Common.{◌≡◌, ℕ, zero, suc, ◌+◌, ◌-◌, ◌^◌, ◌<◌, ◌≤◌, min, Bool, true, false, cond, List, [], ◌∷◌, ◌++◌, Option, Some, None, refl, sym, ap, ◌∙◌, arith, inl, inr, ◌⊎◌}
-use Rattle.std.specs.Prelude.{Result, Ok, Err, OnOk, MatchOption}
+use Rattle.std.specs.Prelude.{Result, Ok, Err, MatchOption}
 use Rattle.disk_model.specs.Books.{BookName, Rose}
 use Rattle.disk_model.specs.Causes.{HasCause}
 use Rattle.disk_model.specs.declared.device_error.DeviceError.{DeviceError}
 use Rattle.disk_model.specs.declared.device_error.DeviceError.TheVariants as device
 use Rattle.disk_model.specs.Piles.{Units, number_at}
-use Rattle.frame_journal.specs.Causes.{OpeningCause}
-use Rattle.frame_journal.specs.declared.journal_error.JournalError.{JournalError}
-use Rattle.frame_journal.specs.declared.journal_error.JournalError.TheVariants as journal
 use Rattle.history_core.specs.declared.reply.Reply.{Reply}
 use Rattle.history_core.specs.declared.reply.Reply.TheVariants.{Bye}
 use Rattle.session_core.specs.declared.session_end.SessionEnd.{SessionEnd}
 use Rattle.session_core.specs.declared.session_end.SessionEnd.TheVariants.{End, Quit as Quitted, Bad, Cut, Spent, SourceFault, SinkFault, Memory}
 use Rattle.session_core.specs.Telling.{told_by_all, CountsRose, StoreState}
 use Rattle.session_core.specs.Machines.{MapState, accepted}
-use Rattle.session_core.specs.Conversations.{Scene, Exchange, SessionEnds, PutFailed, scene_of}
+use Rattle.session_core.specs.Conversations.{Scene, Exchange, SessionEnds, scene_of}
 use Rattle.session_core.proofs.MapSessions.{log-accepted}
 use Rattle.wire_protocol.specs.Grammar.{spell_requests, spell_replies}
 use Rattle.std.specs.Io.KnownBytes.{prepend_known, append_known}
 use Rattle.history_core.specs.declared.request.Request.{Request}
 use Rattle.history_core.specs.declared.request.Request.TheVariants.{Quit}
-use Rattle.remixdb.specs.Outcomes.{status_of, outcome_of_end, failed_of, short_of, least_of, outcome_by, outcome_of_run, outcome_of_refusal, IsCleanOfDevices}
+use Rattle.remixdb.specs.Lent.{risen_with}
+use Rattle.remixdb.specs.Outcomes.{status_of, failed_of, short_of, least_of, outcome_by, outcome_of_run, IsCleanOfDevices, IsCleanOfStreams}
 use Rattle.remixdb.proofs.Scripting.{counts_at, counts_zero, least_none, ok_of}
 
 -- the counts, units and log of a store, after these replies
@@ -39,7 +37,7 @@ moved End from decided old new (at, so, left) = (so.asked, so.answered, moved_by
 moved (Cut at) from decided old new (held, so, some, lacks, left) = (so.asked, so.answered, moved_by old (record new { coming = prepend_known held new.coming }) so.asked so.answered so.exchange)
 moved (Bad at code) from decided old new (held, put, others, so, refused, put_is, counted) = (so.asked, so.answered, moved_by old (record new { coming = prepend_known held new.coming; put = put }) so.asked so.answered so.exchange)
 moved Spent from decided old new (held, at, so, full, lacks) = (so.asked, so.answered, moved_by old (record new { coming = prepend_known held new.coming }) so.asked so.answered so.exchange)
-moved SourceFault from decided old new (held, at, so) = (so.asked, so.answered, moved_by old (record new { coming = prepend_known held new.coming }) so.asked so.answered so.exchange)
+moved SourceFault from decided old new (held, at, so, lacks) = (so.asked, so.answered, moved_by old (record new { coming = prepend_known held new.coming }) so.asked so.answered so.exchange)
 moved SinkFault from decided old new g = (g.asked, g.answered, moved_by old (record new { coming = prepend_known g.held new.coming; put = append_known old.put (spell_replies g.answered) }) g.asked g.answered g.exchange)
 moved Memory from decided old new (e, none) = ([], [], moved_by old new [] [] e)
 
@@ -96,12 +94,6 @@ none_told (Some number) P Q m e = absurd cc
 
 -- ---- the device
 
--- a count never falls where an opening is refused
-pub opening_later : (book : BookName) (before now : ℕ) (error : JournalError) → before < 2 ^ 64 → OpeningCause book before now error → before ≤ now
-opening_later book before now (journal.Fault unit) fits h = omega (arith, h.1, fits)
-opening_later book before now (journal.TornHeader at) fits h = omega (arith, h)
-opening_later book before now journal.Memory fits h = omega (arith, h)
-
 not_four : (end : SessionEnd) → status_of (outcome_by false false None end) ≡ 4 → ⊥
 not_four Quitted e = omega (arith, e)
 not_four End e = omega (arith, e)
@@ -147,6 +139,14 @@ clean_kept cleared told settled end book last a b c d one two three h =
     let s = least_none told (failed_of settled) f.1 in
     ok_of settled (d ≡ c) n.1 s.1 three.kept ∙ two.none s.0 ∙ ok_of cleared (b ≡ a) n.0 f.0 one.kept
 
+-- where every fault that the host counted was told, the closing settle was not refused by a device
+pub all_told : {U : Type 0} (settled : Result U DeviceError) (last : BookName) (a b c d faults out told : ℕ) (lent : Option ℕ) → lent ≡ Some a → a ≤ faults → a ≤ b → min (b + told) (2 ^ 64 - 1) ≤ c → HasCause last c d settled → out ≡ risen_with faults lent d → out ≡ faults + told → out < 2 ^ 64 - 1 → short_of settled ≡ false → failed_of settled ≡ None
+all_told (Ok done) last a b c d faults out told lent is within one two three o all below short = refl
+all_told (Err device.Memory) last a b c d faults out told lent is within one two three o all below short = absurd cc
+all_told (Err (device.Fault unit)) last a b c d faults out told lent is within one two three o all below short =
+    let o' : out ≡ risen_with faults (Some a) d = o ∙ ap (λ (l : Option ℕ). risen_with faults l d) is in
+    absurd (omega (arith, o', within, one, two, three.failed.1, three.later, all, below))
+
 -- ---- the streams
 
 -- status 5 is that of a session that a stream ended
@@ -169,3 +169,19 @@ stream_ended false false (Some number) Spent e = absurd (omega (arith, e))
 stream_ended false false (Some number) SourceFault e = absurd (omega (arith, e))
 stream_ended false false (Some number) SinkFault e = absurd (omega (arith, e))
 stream_ended false false (Some number) Memory e = absurd (omega (arith, e))
+
+not_clean_of_streams : (status : ℕ) → (status ≡ 4) ⊎ ((status ≡ 5) ⊎ (status ≡ 6)) → IsCleanOfStreams status → ⊥
+not_clean_of_streams status is clean = omega (arith, is, clean)
+
+-- a status that yields to a failed stream is that of no session which one ended
+pub source_unclean : (one two : Bool) (failed : Option ℕ) → IsCleanOfStreams (status_of (outcome_by one two failed SourceFault)) → ⊥
+source_unclean true two failed h = not_clean_of_streams 6 (inr (inr refl)) h
+source_unclean false true failed h = not_clean_of_streams 6 (inr (inr refl)) h
+source_unclean false false (Some number) h = not_clean_of_streams 4 (inl refl) h
+source_unclean false false None h = not_clean_of_streams 5 (inr (inl refl)) h
+
+pub sink_unclean : (one two : Bool) (failed : Option ℕ) → IsCleanOfStreams (status_of (outcome_by one two failed SinkFault)) → ⊥
+sink_unclean true two failed h = not_clean_of_streams 6 (inr (inr refl)) h
+sink_unclean false true failed h = not_clean_of_streams 6 (inr (inr refl)) h
+sink_unclean false false (Some number) h = not_clean_of_streams 4 (inl refl) h
+sink_unclean false false None h = not_clean_of_streams 5 (inr (inl refl)) h

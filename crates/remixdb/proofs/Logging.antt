@@ -1,16 +1,16 @@
 -- The log of a map through the calls of its journal. To know: `log_of-same`, `log_of-settled`, `log_of-opened`,
 -- `log_of-entered`, `log_of-closed`.
-use Rattle.std.proofs.Common.{◌≡◌, ℕ, Bool, true, false, cond, List, [], ◌∷◌, ◌++◌, length, Option, Some, None, refl, sym, ap, subst, ◌∙◌, append_assoc, arith}
-use Rattle.std.specs.Prelude.{IsTrue, Result, Ok, Err, OnOk, OnErr, is_err, nat_lt}
+use Rattle.std.proofs.Common.{◌≡◌, ℕ, Bool, true, false, List, [], ◌∷◌, ◌++◌, Option, Some, refl, sym, ap, ◌∙◌, append_assoc}
+use Rattle.std.specs.Prelude.{IsTrue, Result, Ok, Err, OnOk, OnErr, is_err}
 use Rattle.std.specs.Io.KnownBytes.{append_known}
 use Rattle.std.proofs.lemmas.List.{append-nil}
 use Rattle.disk_model.specs.declared.strip.Strip.{Ghosts}
 use Rattle.frame_journal.specs.FrameValue.{FrameValue}
-use Rattle.frame_journal.specs.Frames.{frames_of, end_of, StandsFor}
+use Rattle.frame_journal.specs.Frames.{frames_of, StandsFor}
 use Rattle.frame_journal.specs.Devices.{OfBytes}
 use Rattle.frame_journal.specs.JournalState.{JournalState, has_staged, staged_frame}
 use Rattle.frame_journal.specs.Journals.{standing, with_staged, HasStanding}
-use Rattle.remixdb.specs.Logged.{joined, pending, log_bytes, log_of, KeepsLog}
+use Rattle.remixdb.specs.Logged.{joined, pending, log_bytes, log_of}
 
 joined-append : (xs ys : List FrameValue) → joined (xs ++ ys) ≡ joined xs ++ joined ys
 joined-append [] ys = refl

@@ -1,5 +1,5 @@
 -- A host's count of faults, after streams were taken back.
-use Rattle.std.proofs.Common.{◌≡◌, ℕ, ◌+◌, ◌-◌, ◌^◌, ◌<◌, ◌≤◌, min, max, Option, Some, None, ap, ◌∙◌, arith, inl, inr, ◌⊎◌}
+use Rattle.std.proofs.Common.{◌≡◌, ℕ, ◌+◌, ◌-◌, ◌^◌, ◌<◌, ◌≤◌, min, Option, Some, None, ap, ◌∙◌, arith, inl, inr, ◌⊎◌}
 use Rattle.disk_model.specs.Books.{Rose}
 use Rattle.link_model.specs.Faults.{Rose as LinkRose}
 use Rattle.remixdb.specs.Lent.{lent_of, IsLent, risen_by, lent_strip_of, IsStripLent, risen_with}
@@ -28,3 +28,8 @@ pub streams_rose : (faults source sink source_now sink_now out : ℕ) (lent : Op
 streams_rose faults source sink source_now sink_now out lent is one two later still o rose =
     let o' : out ≡ risen_by faults (Some (source, sink)) source_now sink_now = o ∙ ap (λ (l : Option (ℕ × ℕ)). risen_by faults l source_now sink_now) is in
     elim rose [ inl r ↦ omega (arith, o', one, two, later, still, r) | inr r ↦ omega (arith, o', one, two, later, still, r) ]
+
+pub streams_kept : (faults source sink source_now sink_now out : ℕ) (lent : Option (ℕ × ℕ)) → lent ≡ Some (source, sink) → out ≡ risen_by faults lent source_now sink_now → source_now ≡ source → sink_now ≡ sink → out ≡ faults
+streams_kept faults source sink source_now sink_now out lent is o same still =
+    let o' : out ≡ risen_by faults (Some (source, sink)) source_now sink_now = o ∙ ap (λ (l : Option (ℕ × ℕ)). risen_by faults l source_now sink_now) is in
+    omega (arith, o', same, still)

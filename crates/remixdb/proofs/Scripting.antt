@@ -1,7 +1,6 @@
--- What the end of a session says of the bytes of a script. To know: `script_tells`, `refused_tells`.
-use Rattle.std.proofs.Common.{◌≡◌, ℕ, zero, suc, ◌+◌, ◌-◌, ◌^◌, ◌<◌, ◌≤◌, min, max, Bool, true, false, cond, eqb, List, [], ◌∷◌, ◌++◌, length, take, Option, Some, None, refl, sym, ap, subst, ◌∙◌, append_assoc, arith, inl, inr, ◌⊎◌}
-use Rattle.std.specs.Prelude.{IfSome, IsTrue, Result, Ok, Err, OnOk, MatchOption}
-use Rattle.std.specs.List.{AllByRecursion}
+-- What the end of a session says of the bytes of a script. To know: `script_tells`, `by_end`.
+use Rattle.std.proofs.Common.{◌≡◌, ℕ, zero, suc, ◌+◌, ◌-◌, ◌^◌, ◌<◌, ◌≤◌, min, Bool, true, false, cond, eqb, List, [], ◌∷◌, ◌++◌, length, take, Option, Some, None, refl, sym, ap, subst, ◌∙◌, append_assoc, arith, inl, inr, ◌⊎◌}
+use Rattle.std.specs.Prelude.{IfSome, IsTrue, Result, Ok, Err, OnOk, ⊤}
 use Rattle.std.specs.Io.KnownBytes.{prepend_known, append_known}
 use Rattle.std.proofs.Math.Dec.{eqb-suc-zero}
 use Rattle.std.proofs.lemmas.List.{append-nil, length-append, take_all}
@@ -9,8 +8,9 @@ use Rattle.disk_model.specs.declared.device_error.DeviceError.{DeviceError}
 use Rattle.disk_model.specs.declared.device_error.DeviceError.TheVariants as device
 use Rattle.disk_model.specs.declared.strip.Strip.{Ghosts}
 use Rattle.disk_model.specs.Piles.{Units, number_at}
+use Rattle.link_model.specs.Faults.{Rose}
 use Rattle.frame_journal.specs.Frames.{frames_of, HasNoTorn, IsTornAt}
-use Rattle.frame_journal.specs.Devices.{OfBytes}
+use Rattle.frame_journal.specs.Devices.{OfBytes, KeepsBytes}
 use Rattle.frame_journal.specs.Openings.{TellsTorn}
 use Rattle.frame_journal.specs.declared.journal_error.JournalError.{JournalError}
 use Rattle.frame_journal.specs.declared.journal_error.JournalError.TheVariants as journal
@@ -18,27 +18,29 @@ use Rattle.history_core.specs.declared.request.Request.{Request}
 use Rattle.history_core.specs.declared.request.Request.TheVariants.{Quit}
 use Rattle.history_core.specs.declared.reply.Reply.{Reply}
 use Rattle.history_core.specs.declared.reply.Reply.TheVariants.{Bye, BadMessage}
-use Rattle.wire_protocol.specs.Grammar.{spell_requests, spell_reply, spell_replies, IsRequest}
+use Rattle.wire_protocol.specs.Grammar.{spell_requests, spell_reply, spell_replies}
 use Rattle.wire_protocol.specs.Messages.{wanted}
 use Rattle.session_core.specs.declared.filling.TheConstants.{SESSION_MAX}
 use Rattle.session_core.specs.declared.session_end.SessionEnd.{SessionEnd}
 use Rattle.session_core.specs.declared.session_end.SessionEnd.TheVariants.{End, Quit as Quitted, Bad, Cut, Spent, SourceFault, SinkFault, Memory}
 use Rattle.session_core.specs.Machines.{MapState, accepted}
-use Rattle.session_core.specs.Telling.{told_by_all, CountsRose}
-use Rattle.session_core.specs.Conversations.{Scene, Exchange, SoFar, SessionEnds, PutFailed, IsRefused, Decided, scene_of}
-use Rattle.session_core.proofs.Exchanges.{spell_replies-append}
+use Rattle.session_core.specs.Telling.{told_by_all, CountsRose, StoreState}
+use Rattle.session_core.specs.Conversations.{Scene, Exchange, SessionEnds, Decided, scene_of}
+use Rattle.session_core.proofs.Conversing.{but_last-most}
 use Rattle.session_core.proofs.MapSessions.{map_gives_session, log-accepted}
 use Rattle.remixdb.specs.Lent.{told_bytes}
-use Rattle.remixdb.specs.Logged.{joined}
-use Rattle.remixdb.specs.declared.outcome.Outcome.{Outcome}
-use Rattle.remixdb.specs.declared.outcome.Outcome.TheVariants.{Done, BadMessage as EndedBadly, UnknownWords, TornHeader, DeviceFailed, StreamFailed, OutOfMemory}
+use Rattle.remixdb.specs.MapRows.{MapRows}
+use Rattle.remixdb.specs.Logged.{joined, IsSameStrip}
 use Rattle.remixdb.specs.Outcomes.{status_of, outcome_of_end, failed_of, short_of, least_of, outcome_by, outcome_of_run, outcome_of_refusal}
-use Rattle.remixdb.specs.Scripts.{ScriptBytes, Conversed, TellsNoFault, Logs, IsWellFormed, EndsWell, EndsBadly, EndsCutShort, EndsByStream, EndedBy, HasTorn, HasNone, ScriptEnds}
+use Rattle.remixdb.specs.Scripts.{HostState, ScriptBytes, Conversed, TellsNoFault, Logs, WasSteady, LogsIfAllTold, IsWellFormed, EndsWell, EndsBadly, EndsCutShort, EndedBy, Served, HasTorn, HasNone, IsSilent, ScriptEnds}
 use Rattle.remixdb.proofs.WellFormed.{never_cut, never_refused}
 
 -- a map that begins empty, with this log
 abbrev pub fresh : Option (List ℕ) → MapState
 fresh log = record { rows = []; number = 0; log = log }
+
+pub fresh_of : (log : Option (List ℕ)) (m : MapRows) → m ≡ record { rows = []; number = 0 } → record { rows = m.rows; number = m.number; log = log } ≡ fresh log
+fresh_of log m empty = ap (λ (r : MapRows). record { rows = r.rows; number = r.number; log = log }) empty
 
 -- the counts of devices, of which only device 0 counts
 abbrev pub counts_at : ℕ → ℕ → ℕ
@@ -60,77 +62,80 @@ held_known : (held rest : List ℕ) (left : Option (List ℕ)) → prepend_known
 held_known held rest None e = absurd cc
 held_known held rest (Some more) e = (more, refl, some_is rest (held ++ more) (sym e))
 
--- what holds of the stores that a session begins and ends with
-pub record Stores (log : Option (List ℕ)) (count count_now : ℕ) (new : Scene) : Type 0 where
-  pub counts : (number : ℕ) → new.store.counts number ≡ counts_at count_now number
-
 pub counts_zero : (count n : ℕ) → counts_at count (suc n) ≡ 0
 counts_zero count n = ap (λ (b : Bool). cond b count 0) (eqb-suc-zero n)
 
+-- A session that was served from the first scene to this last one: what came and what was put before it, its store's log
+-- and the count of device 0 before and after it, and its host before and after the script.
+pub record Session : Type 0 where
+  pub input : List ℕ
+  pub before : List ℕ
+  pub log : Option (List ℕ)
+  pub count : ℕ
+  pub count_now : ℕ
+  pub last : Scene
+  pub old : HostState
+  pub new : HostState
+
+abbrev pub first_of : Session → Scene
+first_of s = first_scene s.input s.before s.log s.count
+
+-- only device 0 counts at the end, too
+abbrev pub CountsOne : Session → Type 0
+CountsOne s = (number : ℕ) → s.last.store.counts number ≡ counts_at s.count_now number
+
+-- this holds of the requests and the replies of each exchange that ends with the same store
+abbrev pub Holds : Session → (List Request → List Reply → Type 0) → Type 0
+Holds s P = (scene : Scene) (asked : List Request) (answered : List Reply) → scene.store ≡ s.last.store → Exchange (first_of s) scene asked answered → P asked answered
+
 -- only device 0 is told to have failed
-only_first : (input before : List ℕ) (log : Option (List ℕ)) (count count_now : ℕ) (new : Scene) (replies : List Reply) → Stores log count count_now new → CountsRose (first_scene input before log count).store.counts new.store.counts (λ number. told_by_all number replies) → (number : ℕ) → 0 < told_by_all number replies → number ≡ 0
-only_first input before log count count_now new replies stores rose zero some = refl
-only_first input before log count count_now new replies stores rose (suc n) some =
-    let each : min (counts_at count (suc n) + told_by_all (suc n) replies) (2 ^ 64 - 1) ≤ new.store.counts (suc n) = rose.each (suc n) in
-    absurd (omega (arith, each, counts_zero count n, stores.counts (suc n) ∙ counts_zero count_now n, some))
+only_first : (s : Session) (scene : Scene) (replies : List Reply) → CountsOne s → scene.store ≡ s.last.store → CountsRose (first_of s).store.counts scene.store.counts (λ number. told_by_all number replies) → (number : ℕ) → 0 < told_by_all number replies → number ≡ 0
+only_first s scene replies counts same rose zero some = refl
+only_first s scene replies counts same rose (suc n) some =
+    let each : min (counts_at s.count (suc n) + told_by_all (suc n) replies) (2 ^ 64 - 1) ≤ scene.store.counts (suc n) = rose.each (suc n) in
+    let is : scene.store.counts (suc n) ≡ 0 = ap (λ (t : StoreState). t.counts (suc n)) same ∙ counts (suc n) ∙ counts_zero s.count_now n in
+    absurd (omega (arith, each, counts_zero s.count n, is, some))
 
 -- an exchange from the first scene is a conversation
-conversed : (input before : List ℕ) (log : Option (List ℕ)) (count count_now : ℕ) (new : Scene) (asked : List Request) (answered : List Reply) → Stores log count count_now new → Exchange (first_scene input before log count) new asked answered → (rest : List ℕ) × (new.coming ≡ Some rest) × Conversed input asked answered rest
-conversed input before log count count_now new asked answered stores e =
-    let s = split_known input (spell_requests asked) new.coming e.came in (
-      s.0,
-      s.1,
+conversed : (s : Session) (scene : Scene) (asked : List Request) (answered : List Reply) → CountsOne s → scene.store ≡ s.last.store → Exchange (first_of s) scene asked answered → (rest : List ℕ) × (scene.coming ≡ Some rest) × Conversed s.input asked answered rest
+conversed s scene asked answered counts same e =
+    let split = split_known s.input (spell_requests asked) scene.coming e.came in (
+      split.0,
+      split.1,
       record {
         fit = e.requests;
-        bytes = s.2;
-        session = map_gives_session (fresh log) new.store.map asked answered e.answers;
-        devices = only_first input before log count count_now new answered stores e.counts;
+        bytes = split.2;
+        session = map_gives_session (fresh s.log) scene.store.map asked answered e.answers;
+        devices = only_first s scene answered counts same e.counts;
       },
     )
 
--- where no unit was kept, no reply told a fault
-no_fault : (input before : List ℕ) (log : Option (List ℕ)) (count : ℕ) (new : Scene) (asked : List Request) (answered : List Reply) → ((number : ℕ) → number_at new.store.units number ≡ 0) → Exchange (first_scene input before log count) new asked answered → TellsNoFault answered
-no_fault input before log count new asked answered none e = λ number. omega (arith, e.units number, none number)
+-- the same, where these bytes are held behind the requests
+conversed_held : (s : Session) (held : List ℕ) (put : Option (List ℕ)) (asked : List Request) (answered : List Reply) → CountsOne s → Exchange (first_of s) (record s.last { coming = prepend_known held s.last.coming; put = put }) asked answered → (left : List ℕ) × (s.last.coming ≡ Some left) × Conversed s.input asked answered (held ++ left)
+conversed_held s held put asked answered counts e =
+    let c = conversed s (record s.last { coming = prepend_known held s.last.coming; put = put }) asked answered counts refl e in
+    let h = held_known held c.0 s.last.coming c.1 in
+    (h.0, h.1, subst (λ (rest : List ℕ). Conversed s.input asked answered rest) h.2 c.2)
 
--- what was logged
-pub record Logged (log : Option (List ℕ)) (new : Scene) (strip_before strip_after : Option (List ℕ)) : Type 0 where
-  pub first : (old : List ℕ) → strip_before ≡ Some old → log ≡ Some (joined (frames_of old))
-  pub last : (old : List ℕ) → strip_before ≡ Some old → (now : List ℕ) × (strip_after ≡ Some now) × (new.store.map.log ≡ Some (joined (frames_of now)))
+-- ---- what is known of the devices
 
-logged : (input before : List ℕ) (log : Option (List ℕ)) (count : ℕ) (new : Scene) (asked : List Request) (answered : List Reply) (strip_before strip_after : Option (List ℕ)) → Logged log new strip_before strip_after → Exchange (first_scene input before log count) new asked answered → Logs strip_before strip_after asked answered
-logged input before log count new asked answered strip_before strip_after l e = λ old is_old.
-    let last = l.last old is_old in
-    let first = l.first old is_old in
-    let grew = log-accepted (fresh log) new.store.map asked answered e.answers in
-    let same : Some (joined (frames_of last.0)) ≡ Some (joined (frames_of old) ++ spell_requests (accepted asked answered)) = sym last.2 ∙ grew ∙ ap (λ (o : Option (List ℕ)). append_known o (spell_requests (accepted asked answered))) first in
-    (last.0, last.1, some_is (joined (frames_of last.0)) (joined (frames_of old) ++ spell_requests (accepted asked answered)) same)
+-- a store that kept no unit told no fault
+no_fault : (s : Session) → ((number : ℕ) → number_at s.last.store.units number ≡ 0) → Holds s (λ asked answered. TellsNoFault answered)
+no_fault s none scene asked answered same e = λ number. omega (arith, e.units number, ap (λ (t : StoreState). number_at t.units number) same, none number)
 
--- the same exchange over another scene with the same store
-logged_at : (log : Option (List ℕ)) (new other : Scene) (strip_before strip_after : Option (List ℕ)) → other.store.map.log ≡ new.store.map.log → Logged log new strip_before strip_after → Logged log other strip_before strip_after
-logged_at log new other strip_before strip_after same l = record {
-  first = l.first;
-  last = λ old is_old. let last = l.last old is_old in (last.0, last.1, same ∙ last.2);
-}
+-- the log at the first scene and at the last are the payloads of the strip before and after
+pub record AreLogs (s : Session) : Type 0 where
+  pub first : (old : List ℕ) → s.old.strip ≡ Some old → s.log ≡ Some (joined (frames_of old))
+  pub last : (old : List ℕ) → s.old.strip ≡ Some old → (now : List ℕ) × (s.new.strip ≡ Some now) × (s.last.store.map.log ≡ Some (joined (frames_of now)))
 
--- ---- by status
-
-well : (b : ScriptBytes) → EndsWell b → HasNone b.strip_before → ScriptEnds 0 b
-well b w none = record { well = λ e. w; badly = λ e. absurd (omega (arith, e)); torn = λ e. absurd (omega (arith, e)); faulted = λ e. absurd (omega (arith, e)); cut_short = λ e. absurd (omega (arith, e)); short = λ e. absurd (omega (arith, e)); whole = λ e. none; complete = λ f short e. absurd (omega (arith, e)) }
-
-badly : (b : ScriptBytes) → EndsBadly b → HasNone b.strip_before → (IsWellFormed b.input → length b.input < SESSION_MAX → ⊥) → ScriptEnds 1 b
-badly b w none never = record { well = λ e. absurd (omega (arith, e)); badly = λ e. w; torn = λ e. absurd (omega (arith, e)); faulted = λ e. absurd (omega (arith, e)); cut_short = λ e. absurd (omega (arith, e)); short = λ e. absurd (omega (arith, e)); whole = λ e. none; complete = λ f short e. never f short }
-
-by_stream : (b : ScriptBytes) → EndsByStream b → HasNone b.strip_before → ScriptEnds 5 b
-by_stream b w none = record { well = λ e. absurd (omega (arith, e)); badly = λ e. absurd (omega (arith, e)); torn = λ e. absurd (omega (arith, e)); faulted = λ e. absurd (omega (arith, e)); cut_short = λ e. w; short = λ e. absurd (omega (arith, e)); whole = λ e. none; complete = λ f short e. absurd (omega (arith, e)) }
-
-torn : (b : ScriptBytes) → b.after ≡ b.before → HasTorn b.strip_before → ScriptEnds 3 b
-torn b same t = record { well = λ e. absurd (omega (arith, e)); badly = λ e. absurd (omega (arith, e)); torn = λ e. (same, t); faulted = λ e. absurd (omega (arith, e)); cut_short = λ e. absurd (omega (arith, e)); short = λ e. absurd (omega (arith, e)); whole = λ e. absurd (elim e [ inl z ↦ omega (arith, z) | inr f ↦ elim f [ inl z ↦ omega (arith, z) | inr z ↦ omega (arith, z) ] ]); complete = λ f short e. absurd (omega (arith, e)) }
-
-faulted : (b : ScriptBytes) → (b.after ≡ b.before) ⊎ EndsCutShort b → ScriptEnds 4 b
-faulted b w = record { well = λ e. absurd (omega (arith, e)); badly = λ e. absurd (omega (arith, e)); torn = λ e. absurd (omega (arith, e)); faulted = λ e. w; cut_short = λ e. absurd (omega (arith, e)); short = λ e. absurd (omega (arith, e)); whole = λ e. absurd (elim e [ inl z ↦ omega (arith, z) | inr f ↦ elim f [ inl z ↦ omega (arith, z) | inr z ↦ omega (arith, z) ] ]); complete = λ f short e. absurd (omega (arith, e)) }
-
-too_short : (b : ScriptBytes) → (b.after ≡ b.before) ⊎ EndsCutShort b → ScriptEnds 6 b
-too_short b w = record { well = λ e. absurd (omega (arith, e)); badly = λ e. absurd (omega (arith, e)); torn = λ e. absurd (omega (arith, e)); faulted = λ e. absurd (omega (arith, e)); cut_short = λ e. absurd (omega (arith, e)); short = λ e. w; whole = λ e. absurd (elim e [ inl z ↦ omega (arith, z) | inr f ↦ elim f [ inl z ↦ omega (arith, z) | inr z ↦ omega (arith, z) ] ]); complete = λ f short e. absurd (omega (arith, e)) }
+logged : (s : Session) → AreLogs s → Holds s (λ asked answered. Logs s.old.strip s.new.strip asked answered)
+logged s logs scene asked answered same e = λ old is_old.
+    let last = logs.last old is_old in
+    let first = logs.first old is_old in
+    let grew = log-accepted (fresh s.log) scene.store.map asked answered e.answers in
+    let is : scene.store.map.log ≡ Some (joined (frames_of last.0)) = ap (λ (t : StoreState). t.map.log) same ∙ last.2 in
+    let both : Some (joined (frames_of last.0)) ≡ Some (joined (frames_of old) ++ spell_requests (accepted asked answered)) = sym is ∙ grew ∙ ap (λ (o : Option (List ℕ)). append_known o (spell_requests (accepted asked answered))) first in
+    (last.0, last.1, some_is (joined (frames_of last.0)) (joined (frames_of old) ++ spell_requests (accepted asked answered)) both)
 
 -- ---- by end
 
@@ -147,127 +152,119 @@ refusal_put before put new_put answered at place code e f p =
     ∙ ap (λ (t : List ℕ). Some t) (append_assoc before (spell_replies answered) (spell_reply (BadMessage at code)))
     ∙ ap (λ (n : ℕ). Some (before ++ (spell_replies answered ++ spell_reply (BadMessage n code)))) p
 
--- the bytes of a script
-abbrev pub bytes_of : List ℕ → List ℕ → List ℕ → Option (List ℕ) → Option (List ℕ) → ScriptBytes
-bytes_of input before after strip_before strip_after = record { input = input; before = before; after = after; strip_before = strip_before; strip_after = strip_after }
+-- the bytes of a script, where these are left and these were put
+abbrev pub bytes_of : Session → List ℕ → List ℕ → ScriptBytes
+bytes_of s left after = record { input = s.input; left = left; before = s.before; after = after; old = s.old; new = s.new }
 
--- what holds of a script whose devices did not fail
-pub record IsClean (log : Option (List ℕ)) (new : Scene) (strip_before strip_after : Option (List ℕ)) : Type 0 where
-  pub units : (number : ℕ) → number_at new.store.units number ≡ 0
-  pub log_is : Logged log new strip_before strip_after
-  pub none : HasNone strip_before
+-- what a session came to, by its end, with this of its requests and replies
+abbrev pub Came : SessionEnd → ScriptBytes → (List Request → List Reply → Type 0) → Type 0
+Came Quitted b P = (w : EndsWell b) × P w.requests w.replies
+Came End b P = (w : EndsWell b) × P w.requests w.replies
+Came (Cut at) b P = (w : EndsBadly b) × P w.requests w.replies
+Came (Bad at code) b P = (w : EndsBadly b) × P w.requests w.replies
+Came Spent b P = (w : EndsBadly b) × P w.requests w.replies
+Came SourceFault b P = (w : EndsCutShort b) × P w.requests w.replies
+Came SinkFault b P = (w : EndsCutShort b) × P w.requests w.replies
+Came Memory b P = IsSilent b
 
-abbrev Tells : ℕ → List ℕ → List ℕ → Option (List ℕ) → Option (List ℕ) → Option (List ℕ) → Type 0
-Tells status input before put strip_before strip_after = (after : List ℕ) × (put ≡ Some after) × ScriptEnds status (bytes_of input before after strip_before strip_after)
+-- the same of a session, whatever its bytes are
+abbrev pub CameTo : Session → SessionEnd → (List Request → List Reply → Type 0) → Type 0
+CameTo s end P = (left : List ℕ) × (after : List ℕ) × (s.last.coming ≡ Some left) × (s.last.put ≡ Some after) × Came end (bytes_of s left after) P
 
-ended : (end : SessionEnd) (decided : ℕ) (input before : List ℕ) (log : Option (List ℕ)) (count count_now : ℕ) (new : Scene) (sb sa : Option (List ℕ)) → (end ≡ Memory → ⊥) → Stores log count count_now new → IsClean log new sb sa → SessionEnds end 0 (first_scene input before log count) new decided → Tells (status_of (outcome_of_end end)) input before new.put sb sa
-ended Quitted decided input before log count count_now new sb sa ne stores clean (asked, answered, e, no_quit, counted) =
-    let c = conversed input before log count count_now new (asked ++ Quit ∷ []) (answered ++ Bye ∷ []) stores e in
-    let after = before ++ spell_replies (answered ++ Bye ∷ []) in
-    (after, e.replies, well (bytes_of input before after sb sa) (record { requests = asked ++ Quit ∷ []; replies = answered ++ Bye ∷ []; rest = c.0; conversed = c.2; ended = inl (asked, refl, no_quit); put = refl; steady = no_fault input before log count new (asked ++ Quit ∷ []) (answered ++ Bye ∷ []) clean.units e; logged = logged input before log count new (asked ++ Quit ∷ []) (answered ++ Bye ∷ []) sb sa clean.log_is e }) clean.none)
-ended End decided input before log count count_now new sb sa ne stores clean (at, so, left) =
-    let c = conversed input before log count count_now new so.asked so.answered stores so.exchange in
-    let after = before ++ spell_replies so.answered in
-    (after, so.exchange.replies, well (bytes_of input before after sb sa) (record { requests = so.asked; replies = so.answered; rest = c.0; conversed = c.2; ended = inr (so.no_quit, none_left new c.0 c.1 left); put = refl; steady = no_fault input before log count new so.asked so.answered clean.units so.exchange; logged = logged input before log count new so.asked so.answered sb sa clean.log_is so.exchange }) clean.none)
-ended (Cut at) decided input before log count count_now new sb sa ne stores clean (held, so, some, lacks, left) =
-    let other : Scene = record new { coming = prepend_known held new.coming } in
-    let c = conversed input before log count count_now other so.asked so.answered (record { counts = stores.counts }) so.exchange in
-    let h = held_known held c.0 new.coming c.1 in
-    let is : c.0 ≡ held = h.2 ∙ ap (λ (t : List ℕ). held ++ t) (none_left new h.0 h.1 left) ∙ append-nil held in
-    let there : 0 < length c.0 = omega (arith, ap length is, some) in
-    let wants : 0 < wanted c.0 = omega (arith, ap wanted is, lacks) in
-    let after = before ++ spell_replies so.answered in (
-      after,
-      so.exchange.replies,
-      badly (bytes_of input before after sb sa) (record { requests = so.asked; replies = so.answered; rest = c.0; conversed = c.2; no_quit = so.no_quit; ended = inr (inl (there, wants, refl)); steady = no_fault input before log count other so.asked so.answered clean.units so.exchange; logged = logged input before log count other so.asked so.answered sb sa (logged_at log new other sb sa refl clean.log_is) so.exchange }) clean.none
-          (λ f short. never_cut input so.asked c.0 f so.exchange.requests so.no_quit c.2.bytes there wants),
-    )
-ended (Bad at code) decided input before log count count_now new sb sa ne stores clean (held, put, others, so, refused, put_is, counted) =
-    let other : Scene = record new { coming = prepend_known held new.coming; put = put } in
-    let c = conversed input before log count count_now other so.asked so.answered (record { counts = stores.counts }) so.exchange in
-    let h = held_known held c.0 new.coming c.1 in
-    let after = before ++ (spell_replies so.answered ++ spell_reply (BadMessage (length (spell_requests so.asked)) code)) in (
-      after,
-      refusal_put before put new.put so.answered at (length (spell_requests so.asked)) code so.exchange.replies put_is (omega (arith, so.place)),
-      badly (bytes_of input before after sb sa) (record { requests = so.asked; replies = so.answered; rest = c.0; conversed = c.2; no_quit = so.no_quit; ended = inl (held, h.0, code, h.2, refused, refl); steady = no_fault input before log count other so.asked so.answered clean.units so.exchange; logged = logged input before log count other so.asked so.answered sb sa (logged_at log new other sb sa refl clean.log_is) so.exchange }) clean.none
-          (λ f short. never_refused input so.asked c.0 held h.0 code f so.exchange.requests so.no_quit c.2.bytes h.2 refused),
-    )
-ended Spent decided input before log count count_now new sb sa ne stores clean (held, at, so, full, lacks) =
-    let other : Scene = record new { coming = prepend_known held new.coming } in
-    let c = conversed input before log count count_now other so.asked so.answered (record { counts = stores.counts }) so.exchange in
-    let h = held_known held c.0 new.coming c.1 in
-    let after = before ++ spell_replies so.answered in (
-      after,
-      so.exchange.replies,
-      badly (bytes_of input before after sb sa) (record { requests = so.asked; replies = so.answered; rest = c.0; conversed = c.2; no_quit = so.no_quit; ended = inr (inr (held, h.0, h.2, omega (arith, so.place, full), refl)); steady = no_fault input before log count other so.asked so.answered clean.units so.exchange; logged = logged input before log count other so.asked so.answered sb sa (logged_at log new other sb sa refl clean.log_is) so.exchange }) clean.none
-          (λ f short. absurd (omega (arith, so.place, full, short, ap length c.2.bytes, length-append (spell_requests so.asked) c.0, ap length h.2, length-append held h.0))),
-    )
-ended SourceFault decided input before log count count_now new sb sa ne stores clean (held, at, so) =
-    let other : Scene = record new { coming = prepend_known held new.coming } in
-    let c = conversed input before log count count_now other so.asked so.answered (record { counts = stores.counts }) so.exchange in
-    let h = held_known held c.0 new.coming c.1 in
-    let after = before ++ spell_replies so.answered in (
-      after,
-      so.exchange.replies,
-      by_stream (bytes_of input before after sb sa) (record {
-        short = record { requests = so.asked; replies = so.answered; said = so.answered; held = held; more = h.0; front = length (spell_replies so.answered); conversed = subst (λ (rest : List ℕ). Conversed input so.asked so.answered rest) h.2 c.2; is_said = inl refl; put = all_said before so.answered };
-        steady = no_fault input before log count other so.asked so.answered clean.units so.exchange;
-        logged = logged input before log count other so.asked so.answered sb sa (logged_at log new other sb sa refl clean.log_is) so.exchange;
-      }) clean.none,
-    )
-ended SinkFault decided input before log count count_now new sb sa ne stores clean g =
-    let other : Scene = record new { coming = prepend_known g.held new.coming; put = append_known (Some before) (spell_replies g.answered) } in
-    let c = conversed input before log count count_now other g.asked g.answered (record { counts = stores.counts }) g.exchange in
-    let h = held_known g.held c.0 new.coming c.1 in
-    let after = before ++ take g.front (spell_replies g.said) in (
-      after,
-      g.put_is,
-      by_stream (bytes_of input before after sb sa) (record {
-        short = record { requests = g.asked; replies = g.answered; said = g.said; held = g.held; more = h.0; front = g.front; conversed = subst (λ (rest : List ℕ). Conversed input g.asked g.answered rest) h.2 c.2; is_said = g.is_said; put = refl };
-        steady = no_fault input before log count other g.asked g.answered clean.units g.exchange;
-        logged = logged input before log count other g.asked g.answered sb sa (logged_at log new other sb sa refl clean.log_is) g.exchange;
-      }) clean.none,
-    )
-ended Memory decided input before log count count_now new sb sa ne stores clean out = absurd (ne refl)
+pub by_end : (s : Session) (P : List Request → List Reply → Type 0) (end : SessionEnd) (decided : ℕ) → CountsOne s → Holds s P → ((end ≡ SourceFault) ⊎ (end ≡ SinkFault) → Rose s.old.stream_faults s.new.stream_faults) → SessionEnds end 0 (first_of s) s.last decided → CameTo s end P
+by_end s P Quitted decided counts holds failed (asked, answered, e, no_quit, counted) =
+    let c = conversed s s.last (asked ++ Quit ∷ []) (answered ++ Bye ∷ []) counts refl e in
+    let w : EndsWell (bytes_of s c.0 (s.before ++ spell_replies (answered ++ Bye ∷ []))) = record { requests = asked ++ Quit ∷ []; replies = answered ++ Bye ∷ []; conversed = c.2; ended = inl (asked, refl, no_quit); put = refl } in
+    (c.0, s.before ++ spell_replies (answered ++ Bye ∷ []), c.1, e.replies, (w, holds s.last (asked ++ Quit ∷ []) (answered ++ Bye ∷ []) refl e))
+by_end s P End decided counts holds failed (at, so, nothing) =
+    let c = conversed s s.last so.asked so.answered counts refl so.exchange in
+    let w : EndsWell (bytes_of s c.0 (s.before ++ spell_replies so.answered)) = record { requests = so.asked; replies = so.answered; conversed = c.2; ended = inr (so.no_quit, none_left s.last c.0 c.1 nothing); put = refl } in
+    (c.0, s.before ++ spell_replies so.answered, c.1, so.exchange.replies, (w, holds s.last so.asked so.answered refl so.exchange))
+by_end s P (Cut at) decided counts holds failed (held, so, some, lacks, nothing) =
+    let c = conversed_held s held s.last.put so.asked so.answered counts so.exchange in
+    let w : EndsBadly (bytes_of s c.0 (s.before ++ spell_replies so.answered)) = record { requests = so.asked; replies = so.answered; held = held; conversed = c.2; no_quit = so.no_quit; ended = inr (inl (some, lacks, none_left s.last c.0 c.1 nothing, refl)) } in
+    (c.0, s.before ++ spell_replies so.answered, c.1, so.exchange.replies, (w, holds (record s.last { coming = prepend_known held s.last.coming }) so.asked so.answered refl so.exchange))
+by_end s P (Bad at code) decided counts holds failed (held, put, others, so, refused, put_is, counted) =
+    let c = conversed_held s held put so.asked so.answered counts so.exchange in
+    let after = s.before ++ (spell_replies so.answered ++ spell_reply (BadMessage (length (spell_requests so.asked)) code)) in
+    let w : EndsBadly (bytes_of s c.0 after) = record { requests = so.asked; replies = so.answered; held = held; conversed = c.2; no_quit = so.no_quit; ended = inl (code, refused, refl) } in
+    (c.0, after, c.1, refusal_put s.before put s.last.put so.answered at (length (spell_requests so.asked)) code so.exchange.replies put_is (omega (arith, so.place)), (w, holds (record s.last { coming = prepend_known held s.last.coming; put = put }) so.asked so.answered refl so.exchange))
+by_end s P Spent decided counts holds failed (held, at, so, full, lacks) =
+    let c = conversed_held s held s.last.put so.asked so.answered counts so.exchange in
+    let w : EndsBadly (bytes_of s c.0 (s.before ++ spell_replies so.answered)) = record { requests = so.asked; replies = so.answered; held = held; conversed = c.2; no_quit = so.no_quit; ended = inr (inr (lacks, omega (arith, so.place, full), refl)) } in
+    (c.0, s.before ++ spell_replies so.answered, c.1, so.exchange.replies, (w, holds (record s.last { coming = prepend_known held s.last.coming }) so.asked so.answered refl so.exchange))
+by_end s P SourceFault decided counts holds failed (held, at, so, lacks) =
+    let c = conversed_held s held s.last.put so.asked so.answered counts so.exchange in
+    let w : EndsCutShort (bytes_of s c.0 (s.before ++ spell_replies so.answered)) = record { requests = so.asked; replies = so.answered; said = so.answered; held = held; front = length (spell_replies so.answered); failed = failed (inl refl); conversed = c.2; quits = inl so.no_quit; is_said = inl (lacks, refl); put = all_said s.before so.answered; whole = but_last-most so.answered } in
+    (c.0, s.before ++ spell_replies so.answered, c.1, so.exchange.replies, (w, holds (record s.last { coming = prepend_known held s.last.coming }) so.asked so.answered refl so.exchange))
+by_end s P SinkFault decided counts holds failed g =
+    let put = append_known (Some s.before) (spell_replies g.answered) in
+    let c = conversed_held s g.held put g.asked g.answered counts g.exchange in
+    let w : EndsCutShort (bytes_of s c.0 (s.before ++ take g.front (spell_replies g.said))) = record { requests = g.asked; replies = g.answered; said = g.said; held = g.held; front = g.front; failed = failed (inr refl); conversed = c.2; quits = g.quits; is_said = subst (λ (place : ℕ). Decided place g.held g.answered g.said) (omega arith) g.is_said; put = refl; whole = g.whole } in
+    (c.0, s.before ++ take g.front (spell_replies g.said), c.1, g.put_is, (w, holds (record s.last { coming = prepend_known g.held s.last.coming; put = put }) g.asked g.answered refl g.exchange))
+by_end s P Memory decided counts holds failed (e, counted) =
+    let c = split_known s.input [] s.last.coming e.came in
+    (c.0, s.before, c.1, e.replies ∙ ap (λ (t : List ℕ). Some t) (append-nil s.before), (sym c.2, refl))
 
--- whatever came of it, a front of the replies was put, or nothing
-abbrev Anyhow : List ℕ → List ℕ → Option (List ℕ) → Option (List ℕ) → Option (List ℕ) → Type 0
-Anyhow input before put sb sa = (after : List ℕ) × (put ≡ Some after) × ((after ≡ before) ⊎ EndsCutShort (bytes_of input before after sb sa))
+served : (end : SessionEnd) (b : ScriptBytes) (P : List Request → List Reply → Type 0) → (end ≡ Memory → ⊥) → Came end b P → Served b P
+served Quitted b P ne w = inl w
+served End b P ne w = inl w
+served (Cut at) b P ne w = inr (inl w)
+served (Bad at code) b P ne w = inr (inl w)
+served Spent b P ne w = inr (inl w)
+served SourceFault b P ne w = inr (inr w)
+served SinkFault b P ne w = inr (inr w)
+served Memory b P ne w = absurd (ne refl)
 
-said_last : (xs : List Reply) (last : Reply) → spell_replies (xs ++ last ∷ []) ≡ spell_replies xs ++ spell_reply last
-said_last xs last = spell_replies-append xs (last ∷ []) ∙ ap (λ (t : List ℕ). spell_replies xs ++ t) (append-nil (spell_reply last))
+served_or_silent : (end : SessionEnd) (b : ScriptBytes) (P : List Request → List Reply → Type 0) → Came end b P → IsSilent b ⊎ Served b P
+served_or_silent Memory b P w = inl w
+served_or_silent end b P w = inr (served end b P (λ e. cc) w)
 
-held_end : (input before : List ℕ) (log : Option (List ℕ)) (count count_now : ℕ) (new : Scene) (sb sa : Option (List ℕ)) → Stores log count count_now new → (held : List ℕ) (asked : List Request) (answered : List Reply) → Exchange (first_scene input before log count) (record new { coming = prepend_known held new.coming }) asked answered → Anyhow input before new.put sb sa
-held_end input before log count count_now new sb sa stores held asked answered e =
-    let other : Scene = record new { coming = prepend_known held new.coming } in
-    let c = conversed input before log count count_now other asked answered (record { counts = stores.counts }) e in
-    let h = held_known held c.0 new.coming c.1 in
-    (before ++ spell_replies answered, e.replies, inr (record { requests = asked; replies = answered; said = answered; held = held; more = h.0; front = length (spell_replies answered); conversed = subst (λ (rest : List ℕ). Conversed input asked answered rest) h.2 c.2; is_said = inl refl; put = all_said before answered }))
+-- ---- by status
 
-any_end : (end : SessionEnd) (decided : ℕ) (input before : List ℕ) (log : Option (List ℕ)) (count count_now : ℕ) (new : Scene) (sb sa : Option (List ℕ)) → Stores log count count_now new → SessionEnds end 0 (first_scene input before log count) new decided → Anyhow input before new.put sb sa
-any_end Quitted decided input before log count count_now new sb sa stores (asked, answered, e, no_quit, counted) =
-    let c = conversed input before log count count_now new (asked ++ Quit ∷ []) (answered ++ Bye ∷ []) stores e in
-    (before ++ spell_replies (answered ++ Bye ∷ []), e.replies, inr (record { requests = asked ++ Quit ∷ []; replies = answered ++ Bye ∷ []; said = answered ++ Bye ∷ []; held = []; more = c.0; front = length (spell_replies (answered ++ Bye ∷ [])); conversed = c.2; is_said = inl refl; put = all_said before (answered ++ Bye ∷ []) }))
-any_end End decided input before log count count_now new sb sa stores (at, so, left) =
-    let c = conversed input before log count count_now new so.asked so.answered stores so.exchange in
-    (before ++ spell_replies so.answered, so.exchange.replies, inr (record { requests = so.asked; replies = so.answered; said = so.answered; held = []; more = c.0; front = length (spell_replies so.answered); conversed = c.2; is_said = inl refl; put = all_said before so.answered }))
-any_end (Cut at) decided input before log count count_now new sb sa stores (held, so, some, lacks, left) = held_end input before log count count_now new sb sa stores held so.asked so.answered so.exchange
-any_end Spent decided input before log count count_now new sb sa stores (held, at, so, full, lacks) = held_end input before log count count_now new sb sa stores held so.asked so.answered so.exchange
-any_end SourceFault decided input before log count count_now new sb sa stores (held, at, so) = held_end input before log count count_now new sb sa stores held so.asked so.answered so.exchange
-any_end (Bad at code) decided input before log count count_now new sb sa stores (held, put, others, so, refused, put_is, counted) =
-    let other : Scene = record new { coming = prepend_known held new.coming; put = put } in
-    let c = conversed input before log count count_now other so.asked so.answered (record { counts = stores.counts }) so.exchange in
-    let h = held_known held c.0 new.coming c.1 in
-    let said = so.answered ++ BadMessage at code ∷ [] in
-    let whole : new.put ≡ Some (before ++ spell_replies said) = put_is ∙ ap (λ (o : Option (List ℕ)). append_known o (spell_reply (BadMessage at code))) so.exchange.replies ∙ ap (λ (t : List ℕ). Some t) (append_assoc before (spell_replies so.answered) (spell_reply (BadMessage at code)) ∙ ap (λ (t : List ℕ). before ++ t) (sym (said_last so.answered (BadMessage at code)))) in
-    (before ++ spell_replies said, whole, inr (record { requests = so.asked; replies = so.answered; said = said; held = held; more = h.0; front = length (spell_replies said); conversed = subst (λ (rest : List ℕ). Conversed input so.asked so.answered rest) h.2 c.2; is_said = inr (at, code, refused, refl); put = all_said before said }))
-any_end SinkFault decided input before log count count_now new sb sa stores g =
-    let other : Scene = record new { coming = prepend_known g.held new.coming; put = append_known (Some before) (spell_replies g.answered) } in
-    let c = conversed input before log count count_now other g.asked g.answered (record { counts = stores.counts }) g.exchange in
-    let h = held_known g.held c.0 new.coming c.1 in
-    (before ++ take g.front (spell_replies g.said), g.put_is, inr (record { requests = g.asked; replies = g.answered; said = g.said; held = g.held; more = h.0; front = g.front; conversed = subst (λ (rest : List ℕ). Conversed input g.asked g.answered rest) h.2 c.2; is_said = g.is_said; put = refl }))
-any_end Memory decided input before log count count_now new sb sa stores (e, counted) =
-    (before, e.replies ∙ ap (λ (t : List ℕ). Some t) (append-nil before), inl refl)
+-- an input of whole requests does not end a session badly
+never_badly : (b : ScriptBytes) → IsWellFormed b.input → length b.input < SESSION_MAX → EndsBadly b → ⊥
+never_badly b well short w = by_cause w.ended
+  where
+    by_cause : EndedBy w.requests w.replies w.held b → ⊥
+    by_cause (inl (code, refused, put)) = never_refused b.input w.requests (w.held ++ b.left) w.held b.left code well w.conversed.fit w.no_quit w.conversed.bytes refl refused
+    by_cause (inr (inl (some, lacks, none, put))) =
+        let is : w.held ++ b.left ≡ w.held = ap (λ (t : List ℕ). w.held ++ t) none ∙ append-nil w.held in
+        never_cut b.input w.requests (w.held ++ b.left) well w.conversed.fit w.no_quit w.conversed.bytes (omega (arith, ap length is, some)) (omega (arith, ap wanted is, lacks))
+    by_cause (inr (inr (lacks, full, put))) = omega (arith, full, short, ap length w.conversed.bytes, length-append (spell_requests w.requests) (w.held ++ b.left), length-append w.held b.left)
+
+-- a status that is none of those of a session that went its way
+not_served : (status : ℕ) → (status ≡ 3) ⊎ ((status ≡ 4) ⊎ (status ≡ 6)) → (P : Type 0) → (status ≡ 0) ⊎ ((status ≡ 1) ⊎ (status ≡ 5)) → P
+not_served status is P other = absurd (omega (arith, is, other))
+
+well : (b : ScriptBytes) → (w : EndsWell b) × WasSteady b.old b.new w.requests w.replies → HasNone b.old.strip → ScriptEnds 0 b
+well b w none = record { well = λ e. w; badly = λ e. absurd (omega (arith, e)); torn = λ e. absurd (omega (arith, e)); faulted = λ e. absurd (omega (arith, e)); cut_short = λ e. absurd (omega (arith, e)); short = λ e. absurd (omega (arith, e)); whole = λ e. none; complete = never_badly b }
+
+badly : (b : ScriptBytes) → (w : EndsBadly b) × WasSteady b.old b.new w.requests w.replies → HasNone b.old.strip → ScriptEnds 1 b
+badly b w none = record { well = λ e. absurd (omega (arith, e)); badly = λ e. w; torn = λ e. absurd (omega (arith, e)); faulted = λ e. absurd (omega (arith, e)); cut_short = λ e. absurd (omega (arith, e)); short = λ e. absurd (omega (arith, e)); whole = λ e. none; complete = never_badly b }
+
+by_stream : (b : ScriptBytes) → (w : EndsCutShort b) × WasSteady b.old b.new w.requests w.replies → HasNone b.old.strip → ScriptEnds 5 b
+by_stream b w none = record { well = λ e. absurd (omega (arith, e)); badly = λ e. absurd (omega (arith, e)); torn = λ e. absurd (omega (arith, e)); faulted = λ e. absurd (omega (arith, e)); cut_short = λ e. w; short = λ e. absurd (omega (arith, e)); whole = λ e. none; complete = never_badly b }
+
+torn : (b : ScriptBytes) → IsSilent b → b.new.strip ≡ b.old.strip → HasTorn b.old.strip → ScriptEnds 3 b
+torn b silent same t = record { well = λ e. absurd (omega (arith, e)); badly = λ e. absurd (omega (arith, e)); torn = λ e. (silent, same, t); faulted = λ e. absurd (omega (arith, e)); cut_short = λ e. absurd (omega (arith, e)); short = λ e. absurd (omega (arith, e)); whole = not_served 3 (inl refl) (HasNone b.old.strip); complete = never_badly b }
+
+faulted : (b : ScriptBytes) → (IsSilent b × (b.new.strip ≡ b.old.strip)) ⊎ Served b (LogsIfAllTold b.old b.new) → ScriptEnds 4 b
+faulted b w = record { well = λ e. absurd (omega (arith, e)); badly = λ e. absurd (omega (arith, e)); torn = λ e. absurd (omega (arith, e)); faulted = λ e. w; cut_short = λ e. absurd (omega (arith, e)); short = λ e. absurd (omega (arith, e)); whole = not_served 4 (inr (inl refl)) (HasNone b.old.strip); complete = never_badly b }
+
+too_short : (b : ScriptBytes) → IsSilent b ⊎ Served b (λ requests replies. ⊤) → ScriptEnds 6 b
+too_short b w = record { well = λ e. absurd (omega (arith, e)); badly = λ e. absurd (omega (arith, e)); torn = λ e. absurd (omega (arith, e)); faulted = λ e. absurd (omega (arith, e)); cut_short = λ e. absurd (omega (arith, e)); short = λ e. w; whole = not_served 6 (inr (inr refl)) (HasNone b.old.strip); complete = never_badly b }
+
+-- the status of a session over devices that did not fail
+steady : (end : SessionEnd) (b : ScriptBytes) → (end ≡ Memory → ⊥) → HasNone b.old.strip → Came end b (WasSteady b.old b.new) → ScriptEnds (status_of (outcome_of_end end)) b
+steady Quitted b ne none w = well b w none
+steady End b ne none w = well b w none
+steady (Cut at) b ne none w = badly b w none
+steady (Bad at code) b ne none w = badly b w none
+steady Spent b ne none w = badly b w none
+steady SourceFault b ne none w = by_stream b w none
+steady SinkFault b ne none w = by_stream b w none
+steady Memory b ne none w = absurd (ne refl)
 
 -- ---- by outcome
 
@@ -296,56 +293,100 @@ ok_of (Ok done) P short failed p = p
 ok_of (Err (device.Fault unit)) P short failed p = absurd cc
 ok_of (Err device.Memory) P short failed p = absurd cc
 
-clean_of : {S U : Type 0} (strip : Ghosts S) (first last : S) (log : Option (List ℕ)) (settled : Result U DeviceError) (new : Scene) (sb sa : Option (List ℕ)) → Strips strip first last log new.store.map.log settled → sb ≡ told_bytes strip first → sa ≡ told_bytes strip last → short_of settled ≡ false → failed_of settled ≡ None → ((number : ℕ) → number_at new.store.units number ≡ 0) → IsClean log new sb sa
-clean_of strip first last log settled new sb sa strips is_sb is_sa short failed units = record {
-  units = units;
-  log_is = record {
-    first = λ old is. let k = known_told strip first old (sym is_sb ∙ is) in strips.begins k.0 ∙ ap (λ (t : List ℕ). Some (joined (frames_of t))) k.1;
-    last = λ old is.
-        let k = known_told strip first old (sym is_sb ∙ is) in
-        let told : strip.tells last ≡ true = strips.tells ∙ k.0 in
-        (strip.content last, is_sa ∙ rw told refl, ok_of settled (IsTrue (strip.tells last) → new.store.map.log ≡ Some (joined (frames_of (strip.content last)))) short failed strips.ends told);
-  };
-  none = λ bytes is. let k = known_told strip first bytes (sym is_sb ∙ is) in subst (λ (t : List ℕ). HasNoTorn t) k.1 (strips.none k.0);
+logs_of : {S U : Type 0} (strip : Ghosts S) (first last : S) (settled : Result U DeviceError) (s : Session) → Strips strip first last s.log s.last.store.map.log settled → s.old.strip ≡ told_bytes strip first → s.new.strip ≡ told_bytes strip last → short_of settled ≡ false → failed_of settled ≡ None → AreLogs s
+logs_of strip first last settled s strips is_old is_new short failed = record {
+  first = λ old is. let k = known_told strip first old (sym is_old ∙ is) in strips.begins k.0 ∙ ap (λ (t : List ℕ). Some (joined (frames_of t))) k.1;
+  last = λ old is.
+      let k = known_told strip first old (sym is_old ∙ is) in
+      let told : strip.tells last ≡ true = strips.tells ∙ k.0 in
+      (strip.content last, is_new ∙ rw told refl, ok_of settled (IsTrue (strip.tells last) → s.last.store.map.log ≡ Some (joined (frames_of (strip.content last)))) short failed strips.ends told);
 }
 
-by_outcome : (is_short short : Bool) (failed : Option ℕ) (end : SessionEnd) (decided : ℕ) (input before : List ℕ) (log : Option (List ℕ)) (count count_now : ℕ) (new : Scene) (sb sa : Option (List ℕ)) → Stores log count count_now new → (short ≡ false → failed ≡ None → IsClean log new sb sa) → SessionEnds end 0 (first_scene input before log count) new decided → Tells (status_of (outcome_by is_short short failed end)) input before new.put sb sa
-by_outcome true short failed end decided input before log count count_now new sb sa stores clean h =
-    let a = any_end end decided input before log count count_now new sb sa stores h in (a.0, a.1, too_short (bytes_of input before a.0 sb sa) a.2)
-by_outcome false true failed end decided input before log count count_now new sb sa stores clean h =
-    let a = any_end end decided input before log count count_now new sb sa stores h in (a.0, a.1, too_short (bytes_of input before a.0 sb sa) a.2)
-by_outcome false false failed Memory decided input before log count count_now new sb sa stores clean h =
-    let a = any_end Memory decided input before log count count_now new sb sa stores h in (a.0, a.1, too_short (bytes_of input before a.0 sb sa) a.2)
-by_outcome false false (Some number) end decided input before log count count_now new sb sa stores clean h =
-    let a = any_end end decided input before log count count_now new sb sa stores h in (a.0, a.1, faulted (bytes_of input before a.0 sb sa) a.2)
-by_outcome false false None end decided input before log count count_now new sb sa stores clean h = ended end decided input before log count count_now new sb sa (λ e. cc) stores (clean refl refl) h
+-- a session came to this status
+abbrev pub Tells : Session → ℕ → Type 0
+Tells s status = (left : List ℕ) × (after : List ℕ) × (s.last.coming ≡ Some left) × (s.last.put ≡ Some after) × ScriptEnds status (bytes_of s left after)
+
+by_outcome : (s : Session) (is_short short : Bool) (failed : Option ℕ) (end : SessionEnd) (decided : ℕ) → CountsOne s → HasNone s.old.strip → (short ≡ false → Holds s (LogsIfAllTold s.old s.new)) → (short ≡ false → failed ≡ None → Holds s (WasSteady s.old s.new)) → ((end ≡ SourceFault) ⊎ (end ≡ SinkFault) → Rose s.old.stream_faults s.new.stream_faults) → SessionEnds end 0 (first_of s) s.last decided → Tells s (status_of (outcome_by is_short short failed end))
+by_outcome s true short failed end decided counts none told clean rose h =
+    let t = by_end s (λ asked answered. ⊤) end decided counts (λ scene asked answered same e. tt) rose h in
+    (t.0, t.1, t.2, t.3, too_short (bytes_of s t.0 t.1) (served_or_silent end (bytes_of s t.0 t.1) (λ asked answered. ⊤) t.4))
+by_outcome s false true failed end decided counts none told clean rose h =
+    let t = by_end s (λ asked answered. ⊤) end decided counts (λ scene asked answered same e. tt) rose h in
+    (t.0, t.1, t.2, t.3, too_short (bytes_of s t.0 t.1) (served_or_silent end (bytes_of s t.0 t.1) (λ asked answered. ⊤) t.4))
+by_outcome s false false failed Memory decided counts none told clean rose h =
+    let t = by_end s (λ asked answered. ⊤) Memory decided counts (λ scene asked answered same e. tt) rose h in
+    (t.0, t.1, t.2, t.3, too_short (bytes_of s t.0 t.1) (inl t.4))
+by_outcome s false false (Some number) end decided counts none told clean rose h =
+    let t = by_end s (LogsIfAllTold s.old s.new) end decided counts (told refl) rose h in
+    (t.0, t.1, t.2, t.3, faulted (bytes_of s t.0 t.1) (inr (served end (bytes_of s t.0 t.1) (LogsIfAllTold s.old s.new) (λ e. cc) t.4)))
+by_outcome s false false None end decided counts none told clean rose h =
+    let t = by_end s (WasSteady s.old s.new) end decided counts (clean refl refl) rose h in
+    (t.0, t.1, t.2, t.3, steady end (bytes_of s t.0 t.1) (λ e. cc) none t.4)
 
 -- the names are those of the steps of the call
-pub script_tells : {S T U : Type 0} (strip : Ghosts S) (first last : S) (cleared : Result T DeviceError) (told : Option ℕ) (settled : Result U DeviceError) (end : SessionEnd) (decided : ℕ) (input before left put : Option (List ℕ)) (map_first map_last : MapState) (log : Option (List ℕ)) (count count_now : ℕ) (units : List (Option Units)) (now sb sa : Option (List ℕ)) (status : ℕ)
-    → map_first ≡ fresh log → Strips strip first last log map_last.log settled → sb ≡ told_bytes strip first → sa ≡ told_bytes strip last → (told ≡ None → (number : ℕ) → number_at units number ≡ 0) → now ≡ put → status ≡ status_of (outcome_of_run cleared told settled end)
+pub script_tells : {S T U : Type 0} (strip : Ghosts S) (first last : S) (cleared : Result T DeviceError) (told : Option ℕ) (settled : Result U DeviceError) (end : SessionEnd) (decided : ℕ) (input before left put : Option (List ℕ)) (map_first map_last : MapState) (log : Option (List ℕ)) (count count_now : ℕ) (units : List (Option Units)) (old new : HostState) (status : ℕ)
+    → map_first ≡ fresh log → Strips strip first last log map_last.log settled → old.strip ≡ told_bytes strip first → new.strip ≡ told_bytes strip last → new.input ≡ left → new.output ≡ put
+    → (told ≡ None → (number : ℕ) → number_at units number ≡ 0)
+    → ((number : ℕ) → min (count + number) (2 ^ 64 - 1) ≤ count_now → new.device_faults ≡ old.device_faults + number → new.device_faults < 2 ^ 64 - 1 → short_of settled ≡ false → failed_of settled ≡ None)
+    → ((end ≡ SourceFault) ⊎ (end ≡ SinkFault) → Rose old.stream_faults new.stream_faults)
+    → status ≡ status_of (outcome_of_run cleared told settled end)
     → SessionEnds end 0 (scene_of input before map_first (counts_at count) []) (scene_of left put map_last (counts_at count_now) units) decided
-    → (i b : List ℕ) → input ≡ Some i → before ≡ Some b → (a : List ℕ) × (now ≡ Some a) × ScriptEnds status (bytes_of i b a sb sa)
-script_tells {S} {T} {U} strip first last cleared told settled end decided input before left put map_first map_last log count count_now units now sb sa status is_fresh strips is_sb is_sa none n s h i b is_i is_b =
-    let new = scene_of left put map_last (counts_at count_now) units in
-    let at_map = subst (λ (m : MapState). SessionEnds end 0 (scene_of input before m (counts_at count) []) new decided) is_fresh h in
-    let at_i = subst (λ (o : Option (List ℕ)). SessionEnds end 0 (scene_of o before (fresh log) (counts_at count) []) new decided) is_i at_map in
-    let at_b = subst (λ (o : Option (List ℕ)). SessionEnds end 0 (scene_of (Some i) o (fresh log) (counts_at count) []) new decided) is_b at_i in
-    let clean : short_of settled ≡ false → least_of (failed_of cleared) (least_of told (failed_of settled)) ≡ None → IsClean log new sb sa = λ short failed.
+    → (i b : List ℕ) → input ≡ Some i → before ≡ Some b → (l : List ℕ) × (a : List ℕ) × (new.input ≡ Some l) × (new.output ≡ Some a) × ScriptEnds status (record { input = i; left = l; before = b; after = a; old = old; new = new })
+script_tells {S} {T} {U} strip first last cleared told settled end decided input before left put map_first map_last log count count_now units old new status is_fresh strips is_old is_new is_left is_put none all_told rose n h i b is_i is_b =
+    let scene = scene_of left put map_last (counts_at count_now) units in
+    let s : Session = record { input = i; before = b; log = log; count = count; count_now = count_now; last = scene; old = old; new = new } in
+    let at_map = subst (λ (m : MapState). SessionEnds end 0 (scene_of input before m (counts_at count) []) scene decided) is_fresh h in
+    let at_i = subst (λ (o : Option (List ℕ)). SessionEnds end 0 (scene_of o before (fresh log) (counts_at count) []) scene decided) is_i at_map in
+    let at_b = subst (λ (o : Option (List ℕ)). SessionEnds end 0 (scene_of (Some i) o (fresh log) (counts_at count) []) scene decided) is_b at_i in
+    let is_whole : HasNone old.strip = λ bytes is. let k = known_told strip first bytes (sym is_old ∙ is) in subst (λ (t : List ℕ). HasNoTorn t) k.1 (strips.none k.0) in
+    let if_told : short_of settled ≡ false → Holds s (LogsIfAllTold old new) = λ short other asked answered same e all below.
+    let each : min (count + told_by_all 0 answered) (2 ^ 64 - 1) ≤ other.store.counts 0 = e.counts.each 0 in
+    let counted : min (count + told_by_all 0 answered) (2 ^ 64 - 1) ≤ count_now = omega (arith, each, ap (λ (t : StoreState). t.counts 0) same) in
+    logged s (logs_of strip first last settled s strips is_old is_new short (all_told (told_by_all 0 answered) counted all below short)) other asked answered same e in
+    let clean : short_of settled ≡ false → least_of (failed_of cleared) (least_of told (failed_of settled)) ≡ None → Holds s (WasSteady old new) = λ short failed other asked answered same e.
     let one = least_none (failed_of cleared) (least_of told (failed_of settled)) failed in
     let two = least_none told (failed_of settled) one.1 in
-    clean_of strip first last log settled new sb sa strips is_sb is_sa short two.1 (none two.0) in
-    let t = by_outcome (short_of cleared) (short_of settled) (least_of (failed_of cleared) (least_of told (failed_of settled))) end decided i b log count count_now new sb sa (record { counts = λ number. refl }) clean at_b in
-    (t.0, n ∙ t.1, subst (λ (k : ℕ). ScriptEnds k (bytes_of i b t.0 sb sa)) (sym s) t.2)
+    record {
+      told = no_fault s (none two.0) other asked answered same e;
+      logged = logged s (logs_of strip first last settled s strips is_old is_new short two.1) other asked answered same e;
+    } in
+    let t = by_outcome s (short_of cleared) (short_of settled) (least_of (failed_of cleared) (least_of told (failed_of settled))) end decided (λ number. refl) is_whole if_told clean rose at_b in
+    (t.0, t.1, is_left ∙ t.2, is_put ∙ t.3, subst (λ (k : ℕ). ScriptEnds k (bytes_of s t.0 t.1)) (sym n) t.4)
+
+-- what is told of a strip that came back as it was
+same_told_bytes : {S : Type 0} (strip : Ghosts S) (s back : S) → IsSameStrip strip s back → KeepsBytes strip s back → told_bytes strip back ≡ told_bytes strip s
+same_told_bytes strip s back same kept = by_told (strip.tells s) (strip.tells back) refl refl same.tells
+  where
+    by_told : (told told_back : Bool) → strip.tells s ≡ told → strip.tells back ≡ told_back → told_back ≡ told → cond told_back (Some (strip.content back)) None ≡ cond told (Some (strip.content s)) None
+    by_told true true t u e = ap (λ (bytes : List ℕ). Some bytes) (kept u)
+    by_told false false t u e = refl
+    by_told true false t u e = absurd cc
+    by_told false true t u e = absurd cc
 
 -- an opening that was refused
-pub refused_tells : {S : Type 0} (strip : Ghosts S) (s : S) (error : JournalError) (output : Option (List ℕ)) (now sb sa : Option (List ℕ)) (status : ℕ) → OfBytes strip s (TellsTorn error) → sb ≡ told_bytes strip s → now ≡ output → status ≡ status_of (outcome_of_refusal error) → (i b : List ℕ) → output ≡ Some b → (a : List ℕ) × (now ≡ Some a) × ScriptEnds status (bytes_of i b a sb sa)
-refused_tells strip s error output now sb sa status tells is_sb n e i b is_b = (b, n ∙ is_b, subst (λ (k : ℕ). ScriptEnds k (bytes_of i b b sb sa)) (sym e) (by_error error tells))
+pub refused_tells : {S : Type 0} (strip : Ghosts S) (s back : S) (error : JournalError) (old new : HostState) (status : ℕ) → OfBytes strip s (TellsTorn error) → IsSameStrip strip s back → KeepsBytes strip s back → old.strip ≡ told_bytes strip s → new.strip ≡ told_bytes strip back → new.input ≡ old.input → new.output ≡ old.output → status ≡ status_of (outcome_of_refusal error) → (i b : List ℕ) → old.input ≡ Some i → old.output ≡ Some b → (l : List ℕ) × (a : List ℕ) × (new.input ≡ Some l) × (new.output ≡ Some a) × ScriptEnds status (record { input = i; left = l; before = b; after = a; old = old; new = new })
+refused_tells strip s back error old new status tells same kept is_old is_new same_input same_output n i b is_i is_b =
+    (i, b, same_input ∙ is_i, same_output ∙ is_b, subst (λ (k : ℕ). ScriptEnds k bytes) (sym n) (by_error error tells))
   where
-    by_error : (error : JournalError) → OfBytes strip s (TellsTorn error) → ScriptEnds (status_of (outcome_of_refusal error)) (bytes_of i b b sb sa)
-    by_error (journal.Fault unit) t = faulted (bytes_of i b b sb sa) (inl refl)
-    by_error (journal.TornHeader at) t = torn (bytes_of i b b sb sa) refl (λ bytes is. let k = known_told strip s bytes (sym is_sb ∙ is) in (at, subst (λ (x : List ℕ). IsTornAt x at) k.1 (t k.0)))
-    by_error journal.Memory t = too_short (bytes_of i b b sb sa) (inl refl)
+    bytes : ScriptBytes
+    bytes = record { input = i; left = i; before = b; after = b; old = old; new = new }
 
--- the same, by names of its own for the status and for the strip
-pub tells_at : (i b a : List ℕ) (status other : ℕ) (sb sa now : Option (List ℕ)) → status ≡ other → sa ≡ now → ScriptEnds status (bytes_of i b a sb sa) → ScriptEnds other (bytes_of i b a sb now)
-tells_at i b a status other sb sa now s e h = subst (λ (o : Option (List ℕ)). ScriptEnds other (bytes_of i b a sb o)) e (subst (λ (k : ℕ). ScriptEnds k (bytes_of i b a sb sa)) s h)
+    strip_same : new.strip ≡ old.strip
+    strip_same = is_new ∙ same_told_bytes strip s back same kept ∙ sym is_old
+
+    by_error : (error : JournalError) → OfBytes strip s (TellsTorn error) → ScriptEnds (status_of (outcome_of_refusal error)) bytes
+    by_error (journal.Fault unit) t = faulted bytes (inl ((refl, refl), strip_same))
+    by_error (journal.TornHeader at) t = torn bytes (refl, refl) strip_same (λ found is. let k = known_told strip s found (sym is_old ∙ is) in (at, subst (λ (x : List ℕ). IsTornAt x at) k.1 (t k.0)))
+    by_error journal.Memory t = too_short bytes (inl (refl, refl))
+
+pub same_state : (a b : HostState) → a.input ≡ b.input → a.output ≡ b.output → a.strip ≡ b.strip → a.device_faults ≡ b.device_faults → a.stream_faults ≡ b.stream_faults → a ≡ b
+same_state a b input output strip devices streams =
+    ap (λ (x : Option (List ℕ)). record a { input = x }) input
+    ∙ ap (λ (x : Option (List ℕ)). record a { input = b.input; output = x }) output
+    ∙ ap (λ (x : Option (List ℕ)). record a { input = b.input; output = b.output; strip = x }) strip
+    ∙ ap (λ (n : ℕ). record b { device_faults = n; stream_faults = a.stream_faults }) devices
+    ∙ ap (λ (n : ℕ). record b { stream_faults = n }) streams
+
+-- the same, by a host's state after its notes and by the status of the call
+pub tells_at : (old new other : HostState) (status as_answered : ℕ) → status ≡ as_answered → new ≡ other → (i b : List ℕ) → (l : List ℕ) × (a : List ℕ) × (new.input ≡ Some l) × (new.output ≡ Some a) × ScriptEnds status (record { input = i; left = l; before = b; after = a; old = old; new = new }) → (l : List ℕ) × (a : List ℕ) × (other.input ≡ Some l) × (other.output ≡ Some a) × ScriptEnds as_answered (record { input = i; left = l; before = b; after = a; old = old; new = other })
+tells_at old new other status as_answered same e i b t = subst (λ (h : HostState). (l : List ℕ) × (a : List ℕ) × (h.input ≡ Some l) × (h.output ≡ Some a) × ScriptEnds as_answered (record { input = i; left = l; before = b; after = a; old = old; new = h })) e (subst (λ (k : ℕ). (l : List ℕ) × (a : List ℕ) × (new.input ≡ Some l) × (new.output ≡ Some a) × ScriptEnds k (record { input = i; left = l; before = b; after = a; old = old; new = new })) same t)

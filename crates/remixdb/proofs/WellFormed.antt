@@ -1,5 +1,5 @@
 -- Input that is whole requests does not end a session badly. To know: `never_cut`, `never_refused`.
-use Rattle.std.proofs.Common.{◌≡◌, ℕ, ◌+◌, ◌<◌, ◌≤◌, true, false, List, [], ◌∷◌, ◌++◌, length, Option, Some, None, refl, sym, ap, subst, ◌∙◌, append_assoc, arith, inl, inr, ◌⊎◌}
+use Rattle.std.proofs.Common.{◌≡◌, ℕ, ◌<◌, true, false, List, [], ◌∷◌, ◌++◌, length, Some, None, refl, sym, ap, subst, ◌∙◌, append_assoc, arith, inl, inr, ◌⊎◌}
 use Rattle.std.specs.List.{AllByRecursion}
 use Rattle.std.proofs.lemmas.List.{append-nil, length-append, nil_from_length}
 use Rattle.rdb_base.proofs.Lists.{all-front, all-back}
@@ -9,8 +9,8 @@ use Rattle.wire_protocol.specs.Grammar.{spell_request, spell_requests, IsRequest
 use Rattle.wire_protocol.specs.Messages.{wanted}
 use Rattle.wire_protocol.specs.Answer.{refusal}
 use Rattle.wire_protocol.proofs.Whole.{same_request, nothing_wanted, no_refusal}
-use Rattle.session_core.specs.Conversations.{NoQuit, is_quit, IsRefused}
-use Rattle.remixdb.specs.Scripts.{EndsWithQuit, IsWellFormed}
+use Rattle.session_core.specs.Conversations.{NoQuit, EndsWithQuit, is_quit, IsRefused}
+use Rattle.remixdb.specs.Scripts.{IsWellFormed}
 
 -- two lists of requests at one front: one of them goes on where the other one ends
 abbrev pub Aligned : List Request → List Request → List ℕ → List ℕ → Type 0

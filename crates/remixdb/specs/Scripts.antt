@@ -1,8 +1,8 @@
 -- What a script does to the bytes of its streams and of its strip, by its status.
-use Rattle.std.specs.Prelude.{◌≡◌, ◌⊎◌, ℕ, ◌+◌, ◌<◌, List, [], ◌∷◌, ◌++◌, length, take, Option, Some}
+use Rattle.std.specs.Prelude.{◌≡◌, ◌⊎◌, ℕ, ◌+◌, ◌-◌, ◌^◌, ◌<◌, ◌≤◌, ⊤, List, [], ◌++◌, length, take, Option, Some}
 use Rattle.std.specs.List.{AllByRecursion}
+use Rattle.link_model.specs.Faults.{Rose}
 use Rattle.history_core.specs.declared.request.Request.{Request}
-use Rattle.history_core.specs.declared.request.Request.TheVariants.{Quit}
 use Rattle.history_core.specs.declared.reply.Reply.{Reply}
 use Rattle.history_core.specs.declared.reply.Reply.TheVariants.{BadMessage}
 use Rattle.history_core.specs.Sessions.{IsSession}
@@ -12,16 +12,31 @@ use Rattle.frame_journal.specs.Frames.{frames_of, IsTornAt, HasNoTorn}
 use Rattle.session_core.specs.declared.filling.TheConstants.{SESSION_MAX}
 use Rattle.session_core.specs.Machines.{accepted}
 use Rattle.session_core.specs.Telling.{told_by_all}
-use Rattle.session_core.specs.Conversations.{NoQuit, IsRefused, Decided}
+use Rattle.session_core.specs.Conversations.{NoQuit, EndsWithQuit, IsRefused, Decided, but_last}
+use Rattle.remixdb.specs.declared.host.Host.{Ghosts}
 use Rattle.remixdb.specs.Logged.{joined}
 
--- what a script meets: the bytes of the input, of the output and of the strip, before and after
+-- What contracts see of a host that has all at home: what its source has left, what its sink took, what its strip holds,
+-- each where it is told; and how often a device and a stream failed.
+pub record HostState : Type 0 where
+  pub input : Option (List ℕ)
+  pub output : Option (List ℕ)
+  pub strip : Option (List ℕ)
+  pub device_faults : ℕ
+  pub stream_faults : ℕ
+
+abbrev pub state_of : {H Strip In Out : Type 0} → Ghosts H Strip In Out → H → HostState
+state_of host h = record { input = host.input h; output = host.output h; strip = host.strip_bytes h; device_faults = host.device_faults h; stream_faults = host.stream_faults h }
+
+-- what a script met that knows its bytes: what was to come and what is left of it, what was put before and after, and the
+-- host before and after
 pub record ScriptBytes : Type 0 where
   pub input : List ℕ
+  pub left : List ℕ
   pub before : List ℕ
   pub after : List ℕ
-  pub strip_before : Option (List ℕ)
-  pub strip_after : Option (List ℕ)
+  pub old : HostState
+  pub new : HostState
 
 -- The input begins with these requests, which leave these bytes, and the replies to them are those of one session over
 -- one history, which began empty. Only device 0 is told to have failed.
@@ -39,63 +54,68 @@ TellsNoFault replies = (device : ℕ) → told_by_all device replies ≡ 0
 abbrev pub Logs : Option (List ℕ) → Option (List ℕ) → List Request → List Reply → Type 0
 Logs before after requests replies = (old : List ℕ) → before ≡ Some old → (new : List ℕ) × (after ≡ Some new) × (joined (frames_of new) ≡ joined (frames_of old) ++ spell_requests (accepted requests replies))
 
--- the last request asks the session to end, and none before it does
-abbrev pub EndsWithQuit : List Request → Type 0
-EndsWithQuit requests = (front : List Request) × (requests ≡ front ++ Quit ∷ []) × NoQuit front
+-- what is known of a session over devices that did not fail: no fault is told, and its updates are logged
+pub record WasSteady (old new : HostState) (requests : List Request) (replies : List Reply) : Type 0 where
+  pub told : TellsNoFault replies
+  pub logged : Logs old.strip new.strip requests replies
+
+-- where each fault of a device that the host counted was told in a reply, the updates are logged
+abbrev pub LogsIfAllTold : HostState → HostState → List Request → List Reply → Type 0
+LogsIfAllTold old new requests replies = new.device_faults ≡ old.device_faults + told_by_all 0 replies → new.device_faults < 2 ^ 64 - 1 → Logs old.strip new.strip requests replies
 
 -- Bytes that are whole requests: up to a QUIT, behind which anything may stand, or to their end.
 abbrev pub IsWellFormed : List ℕ → Type 0
 IsWellFormed input = (requests : List Request) × (rest : List ℕ) × AllByRecursion IsRequest requests × (input ≡ spell_requests requests ++ rest) × (EndsWithQuit requests ⊎ (rest ≡ []))
 
--- a script that ended well: each request was answered, up to a QUIT or to the end of the input
+-- a session that ended well: each request was answered, up to a QUIT or to the end of the input, and no byte was taken
+-- behind that
 pub record EndsWell (b : ScriptBytes) : Type 0 where
   pub requests : List Request
   pub replies : List Reply
-  pub rest : List ℕ
-  pub conversed : Conversed b.input requests replies rest
-  pub ended : EndsWithQuit requests ⊎ (NoQuit requests × (rest ≡ []))
+  pub conversed : Conversed b.input requests replies b.left
+  pub ended : EndsWithQuit requests ⊎ (NoQuit requests × (b.left ≡ []))
   pub put : b.after ≡ b.before ++ spell_replies replies
-  pub steady : TellsNoFault replies
-  pub logged : Logs b.strip_before b.strip_after requests replies
 
--- what stands behind the last request of a script that ended badly, and what was put because of it
-abbrev pub EndedBy : List Request → List Reply → List ℕ → List ℕ → List ℕ → Type 0
-EndedBy requests replies rest before after =
+-- why a session ended badly that held these bytes behind its last request, and what was put because of it
+abbrev pub EndedBy : List Request → List Reply → List ℕ → ScriptBytes → Type 0
+EndedBy requests replies held b =
     -- a message that is in no grammar: its refusal was put, with its place and the code of the first test that it fails
-    ((held : List ℕ) × (more : List ℕ) × (code : ℕ) × (rest ≡ held ++ more) × IsRefused held code × (after ≡ before ++ (spell_replies replies ++ spell_reply (BadMessage (length (spell_requests requests)) code))))
+    ((code : ℕ) × IsRefused held code × (b.after ≡ b.before ++ (spell_replies replies ++ spell_reply (BadMessage (length (spell_requests requests)) code))))
     -- the front of a message that the input does not end
-    ⊎ ((0 < length rest) × (0 < wanted rest) × (after ≡ before ++ spell_replies replies))
-    -- more bytes than a session takes
-    ⊎ ((held : List ℕ) × (more : List ℕ) × (rest ≡ held ++ more) × (length (spell_requests requests) + length held ≡ SESSION_MAX) × (after ≡ before ++ spell_replies replies))
+    ⊎ ((0 < length held) × (0 < wanted held) × (b.left ≡ []) × (b.after ≡ b.before ++ spell_replies replies))
+    -- as many bytes as a session takes, and a message that still lacks some
+    ⊎ ((0 < wanted held) × (length (spell_requests requests) + length held ≡ SESSION_MAX) × (b.after ≡ b.before ++ spell_replies replies))
 
--- a script that ended badly: each request before the end was answered
+-- a session that ended badly: each request before the end was answered
 pub record EndsBadly (b : ScriptBytes) : Type 0 where
   pub requests : List Request
   pub replies : List Reply
-  pub rest : List ℕ
-  pub conversed : Conversed b.input requests replies rest
+  pub held : List ℕ
+  pub conversed : Conversed b.input requests replies (held ++ b.left)
   pub no_quit : NoQuit requests
-  pub ended : EndedBy requests replies rest b.before b.after
-  pub steady : TellsNoFault replies
-  pub logged : Logs b.strip_before b.strip_after requests replies
+  pub ended : EndedBy requests replies held b
 
--- a script that was cut short: a front of what was to be put is there
+-- A session that a failed stream cut short: a front of what was to be put is there, and in it each reply but the last.
+-- Nothing was taken behind a QUIT.
 pub record EndsCutShort (b : ScriptBytes) : Type 0 where
   pub requests : List Request
   pub replies : List Reply
   pub said : List Reply
   pub held : List ℕ
-  pub more : List ℕ
   pub front : ℕ
-  pub conversed : Conversed b.input requests replies (held ++ more)
-  pub is_said : Decided held replies said
+  pub failed : Rose b.old.stream_faults b.new.stream_faults
+  pub conversed : Conversed b.input requests replies (held ++ b.left)
+  pub quits : NoQuit requests ⊎ (EndsWithQuit requests × (held ≡ []))
+  pub is_said : Decided (length (spell_requests requests)) held replies said
   pub put : b.after ≡ b.before ++ take front (spell_replies said)
+  pub whole : length (spell_replies (but_last said)) ≤ front
 
--- the same of one whose devices did not fail
-pub record EndsByStream (b : ScriptBytes) : Type 0 where
-  pub short : EndsCutShort b
-  pub steady : TellsNoFault short.replies
-  pub logged : Logs b.strip_before b.strip_after short.requests short.replies
+-- how a session ended that began, with this of its requests and replies
+abbrev pub Served : ScriptBytes → (List Request → List Reply → Type 0) → Type 0
+Served b P =
+    ((s : EndsWell b) × P s.requests s.replies)
+    ⊎ (((s : EndsBadly b) × P s.requests s.replies)
+    ⊎ ((s : EndsCutShort b) × P s.requests s.replies))
 
 -- where the strip is told, a header is torn at a place of it
 abbrev pub HasTorn : Option (List ℕ) → Type 0
@@ -105,19 +125,25 @@ HasTorn strip = (bytes : List ℕ) → strip ≡ Some bytes → (at : ℕ) × Is
 abbrev pub HasNone : Option (List ℕ) → Type 0
 HasNone strip = (bytes : List ℕ) → strip ≡ Some bytes → HasNoTorn bytes
 
+-- nothing was taken and nothing put
+abbrev pub IsSilent : ScriptBytes → Type 0
+IsSilent b = (b.left ≡ b.input) × (b.after ≡ b.before)
+
 -- what a script with this status made of the bytes
 pub record ScriptEnds (status : ℕ) (b : ScriptBytes) : Type 0 where
-  pub well : status ≡ 0 → EndsWell b
-  pub badly : status ≡ 1 → EndsBadly b
-  pub torn : status ≡ 3 → (b.after ≡ b.before) × HasTorn b.strip_before
-  pub faulted : status ≡ 4 → (b.after ≡ b.before) ⊎ EndsCutShort b
-  pub cut_short : status ≡ 5 → EndsByStream b
-  pub short : status ≡ 6 → (b.after ≡ b.before) ⊎ EndsCutShort b
-  -- a session ran only over a strip without a torn header
-  pub whole : (status ≡ 0) ⊎ ((status ≡ 1) ⊎ (status ≡ 5)) → HasNone b.strip_before
+  pub well : status ≡ 0 → (s : EndsWell b) × WasSteady b.old b.new s.requests s.replies
+  pub badly : status ≡ 1 → (s : EndsBadly b) × WasSteady b.old b.new s.requests s.replies
+  pub torn : status ≡ 3 → IsSilent b × (b.new.strip ≡ b.old.strip) × HasTorn b.old.strip
+  -- opening failed, or a session was served all the same
+  pub faulted : status ≡ 4 → (IsSilent b × (b.new.strip ≡ b.old.strip)) ⊎ Served b (LogsIfAllTold b.old b.new)
+  pub cut_short : status ≡ 5 → (s : EndsCutShort b) × WasSteady b.old b.new s.requests s.replies
+  -- memory was refused before the first byte, or behind the last reply
+  pub short : status ≡ 6 → IsSilent b ⊎ Served b (λ requests replies. ⊤)
+  -- a session begins only over a strip without a torn header
+  pub whole : (status ≡ 0) ⊎ ((status ≡ 1) ⊎ (status ≡ 5)) → HasNone b.old.strip
   -- input that is well formed does not end badly
-  pub complete : IsWellFormed b.input → length b.input < SESSION_MAX → status ≡ 1 → ⊥
+  pub complete : IsWellFormed b.input → length b.input < SESSION_MAX → EndsBadly b → ⊥
 
 -- the same of a host that may tell its bytes
-abbrev pub ScriptTells : ℕ → Option (List ℕ) → Option (List ℕ) → Option (List ℕ) → Option (List ℕ) → Option (List ℕ) → Type 0
-ScriptTells status input before after strip_before strip_after = (i : List ℕ) (b : List ℕ) → input ≡ Some i → before ≡ Some b → (a : List ℕ) × (after ≡ Some a) × ScriptEnds status (record { input = i; before = b; after = a; strip_before = strip_before; strip_after = strip_after })
+abbrev pub ScriptTells : ℕ → HostState → HostState → Type 0
+ScriptTells status old new = (input : List ℕ) (before : List ℕ) → old.input ≡ Some input → old.output ≡ Some before → (left : List ℕ) × (after : List ℕ) × (new.input ≡ Some left) × (new.output ≡ Some after) × ScriptEnds status (record { input = input; left = left; before = before; after = after; old = old; new = new })

@@ -2,7 +2,7 @@
 ghost use Rattle.std.specs.Prelude.{◌≡◌, ◌≢◌, None};
 ghost use Rattle.link_model.specs.Faults.{Rose};
 ghost use Rattle.remixdb.specs.Outcomes.{status_of, IsCleanOfDevices, IsCleanOfStreams};
-ghost use Rattle.remixdb.specs.Scripts.{ScriptTells};
+ghost use Rattle.remixdb.specs.Scripts.{ScriptTells, state_of};
 ghost use Rattle.remixdb.specs.declared.outcome.Outcome.TheVariants.{UnknownWords};
 
 use crate::host::Host;
@@ -23,7 +23,7 @@ pub(crate) fn script<H: Host>(alloc: Global, host: &mut H) -> Outcome
     ensures device_kept { IsCleanOfDevices (status_of result) → H.device_faults host.new ≡ H.device_faults host.old }
     ensures stream_failed { status_of result ≡ 5 → Rose (H.stream_faults host.old) (H.stream_faults host.new) }
     ensures stream_kept { IsCleanOfStreams (status_of result) → H.stream_faults host.new ≡ H.stream_faults host.old }
-    ensures bytes { ScriptTells (status_of result) (H.input host.old) (H.output host.old) (H.output host.new) (H.strip_bytes host.old) (H.strip_bytes host.new) }
+    ensures bytes { ScriptTells (status_of result) (state_of H.Host host.old) (state_of H.Host host.new) }
 {
     let strip = host.strip();
     let mut map = match LoggedMap::open(alloc, strip) {

@@ -3,7 +3,7 @@ ghost use Rattle.std.specs.Prelude.{◌≡◌, ◌≤◌, ◌↔◌, None};
 ghost use Rattle.link_model.specs.Faults.{Rose};
 ghost use Rattle.remixdb.specs.Words.{IsScript};
 ghost use Rattle.remixdb.specs.Outcomes.{status_of, IsCleanOfDevices, IsCleanOfStreams};
-ghost use Rattle.remixdb.specs.Scripts.{ScriptTells};
+ghost use Rattle.remixdb.specs.Scripts.{ScriptTells, state_of};
 
 use crate::command::{Command, command_of};
 use crate::host::Host;
@@ -34,8 +34,8 @@ fn run<H: Host>(alloc: Global, words: &[Word], host: &mut H) -> Outcome
     ensures device_kept { IsCleanOfDevices (status_of result) → H.device_faults host.new ≡ H.device_faults host.old }
     ensures stream_failed { status_of result ≡ 5 → Rose (H.stream_faults host.old) (H.stream_faults host.new) }
     ensures stream_kept { IsCleanOfStreams (status_of result) → H.stream_faults host.new ≡ H.stream_faults host.old }
-    ensures bytes { IsScript words.now → ScriptTells (status_of result) (H.input host.old) (H.output host.old) (H.output host.new) (H.strip_bytes host.old) (H.strip_bytes host.new) }
-    ensures idle { (IsScript words.now → ⊥) → (H.input host.new ≡ H.input host.old) × (H.output host.new ≡ H.output host.old) × (H.strip_bytes host.new ≡ H.strip_bytes host.old) }
+    ensures bytes { IsScript words.now → ScriptTells (status_of result) (state_of H.Host host.old) (state_of H.Host host.new) }
+    ensures idle { (IsScript words.now → ⊥) → state_of H.Host host.new ≡ state_of H.Host host.old }
 {
     match command_of(words) {
         Some(Command::Script) => script(alloc, host),
@@ -63,9 +63,9 @@ pub fn remixdb<H: Host>(alloc: Global, words: &[Word], host: &mut H) -> u8
     ensures streams_home { H.lent host.new ≡ None }
     ensures strip_home { H.lent_strip host.new ≡ None }
 
-    // Status 2 is exactly that of words in another form, and then nothing is taken, put or written.
+    // Status 2 is exactly that of words in another form, and then nothing is taken, put or written, and no fault counted.
     ensures words { (result ≡ 2) ↔ (IsScript words.now → ⊥) }
-    ensures idle { (IsScript words.now → ⊥) → (H.input host.new ≡ H.input host.old) × (H.output host.new ≡ H.output host.old) × (H.strip_bytes host.new ≡ H.strip_bytes host.old) }
+    ensures idle { (IsScript words.now → ⊥) → state_of H.Host host.new ≡ state_of H.Host host.old }
     ensures least { result ≤ 6 }
 
     // Status 4 comes only where a device's fault was counted, and a status that yields to it passes over none.
@@ -76,8 +76,9 @@ pub fn remixdb<H: Host>(alloc: Global, words: &[Word], host: &mut H) -> u8
     ensures stream_failed { result ≡ 5 → Rose (H.stream_faults host.old) (H.stream_faults host.new) }
     ensures stream_kept { IsCleanOfStreams result → H.stream_faults host.new ≡ H.stream_faults host.old }
 
-    // Over a host that tells its bytes: which requests came, what was put, what is on the strip, and why it ended so.
-    ensures bytes { IsScript words.now → ScriptTells result (H.input host.old) (H.output host.old) (H.output host.new) (H.strip_bytes host.old) (H.strip_bytes host.new) }
+    // Over a host that tells its bytes: which requests came and were taken, what was put, what is on the strip, and why it
+    // ended so.
+    ensures bytes { IsScript words.now → ScriptTells result (state_of H.Host host.old) (state_of H.Host host.new) }
 {
     let outcome = run(alloc, words, host);
     tell(alloc, outcome, host);

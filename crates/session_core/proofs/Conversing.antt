@@ -1,5 +1,5 @@
 -- How turns make a session. To know: `so_far_first`, `so_far_more`, `ended_after`, `flush_failed`.
-use Rattle.std.proofs.Common.{◌≡◌, ℕ, ◌+◌, ◌≤◌, ◌<◌, false, List, [], ◌∷◌, ◌++◌, length, take, Option, refl, sym, ap, subst, ◌∙◌, append_assoc, arith, inl, inr}
+use Rattle.std.proofs.Common.{◌≡◌, ℕ, ◌+◌, ◌≤◌, ◌<◌, false, List, [], ◌∷◌, ◌++◌, length, take, Option, refl, sym, ap, subst, ◌∙◌, append_assoc, arith, inl, inr, ◌⊎◌}
 use Rattle.std.specs.Io.KnownBytes.{prepend_known, append_known}
 use Rattle.std.proofs.lemmas.List.{append-nil, length-append, take_all}
 use Rattle.std.proofs.Math.Seq.{take-append-add}
@@ -10,14 +10,14 @@ use Rattle.history_core.specs.declared.request.Request.TheVariants.{Put, Get, Qu
 use Rattle.history_core.specs.declared.reply.Reply.{Reply}
 use Rattle.history_core.specs.declared.reply.Reply.TheVariants.{Done, Value, Absent, Bye, BadMessage, DeviceFault, OutOfMemory}
 use Rattle.wire_protocol.specs.Grammar.{spell_request, spell_requests, spell_reply, spell_replies}
-use Rattle.wire_protocol.specs.Messages.{Held}
+use Rattle.wire_protocol.specs.Messages.{Held, wanted}
 use Rattle.session_core.specs.declared.session_end.SessionEnd.{SessionEnd}
 use Rattle.session_core.specs.declared.session_end.SessionEnd.TheVariants.{End, Quit as Quitted, Bad, Cut, Spent, SourceFault, SinkFault, Memory}
 use Rattle.session_core.specs.Machines.{MapState, Answer}
-use Rattle.session_core.specs.Conversations.{Scene, Exchange, SoFar, is_quit, SessionEnds, PutFailed, Decided, before_taking, with_put}
+use Rattle.session_core.specs.Conversations.{Scene, Exchange, SoFar, is_quit, NoQuit, EndsWithQuit, SessionEnds, PutFailed, Decided, but_last, before_taking, with_put}
 use Rattle.session_core.specs.Turns.{TurnGoesOn}
 use Rattle.session_core.proofs.Counting.{told_by_one}
-use Rattle.session_core.proofs.Exchanges.{prepend_known-nil, append_known-twice, spell_replies-append, exchange_one, Exchange-both, SoFar-both, so_far_none}
+use Rattle.session_core.proofs.Exchanges.{prepend_known-nil, append_known-twice, spell_requests-append, spell_replies-append, exchange_one, Exchange-both, SoFar-both, so_far_none}
 
 -- the loop begins where nothing came
 pub so_far_first : (old new : Scene) (at : ℕ) → Exchange old new [] [] → at ≡ 0 → SoFar 0 old new at 0
@@ -55,7 +55,19 @@ turn_counts old new before after t =
 
 -- ---- a session whose last turn ended it
 
-put_failed_after : (from at n d : ℕ) (old mid new : Scene) → SoFar from old mid at n → PutFailed mid new d → PutFailed old new (n + d)
+-- the replies but the last, of two lists
+pub but_last-most : (said : List Reply) → length (spell_replies (but_last said)) ≤ length (spell_replies said)
+but_last-most [] = omega arith
+but_last-most (reply ∷ []) = omega arith
+but_last-most (reply ∷ (next ∷ replies)) = omega (arith, but_last-most (next ∷ replies), length-append (spell_reply reply) (spell_replies (but_last (next ∷ replies))), length-append (spell_reply reply) (spell_replies (next ∷ replies)))
+
+but_last-append : (first said : List Reply) → length (spell_replies (but_last (first ++ said))) ≤ length (spell_replies first) + length (spell_replies (but_last said))
+but_last-append [] said = omega arith
+but_last-append (reply ∷ []) [] = omega arith
+but_last-append (reply ∷ []) (next ∷ said) = omega (arith, length-append (spell_reply reply) (spell_replies (but_last (next ∷ said))), length-append (spell_reply reply) (spell_replies []))
+but_last-append (reply ∷ (next ∷ first)) said = omega (arith, but_last-append (next ∷ first) said, length-append (spell_reply reply) (spell_replies (but_last (next ∷ (first ++ said)))), length-append (spell_reply reply) (spell_replies (next ∷ first)))
+
+put_failed_after : (from at n d : ℕ) (old mid new : Scene) → SoFar from old mid at n → PutFailed at mid new d → PutFailed from old new (n + d)
 put_failed_after from at n d old mid new h g =
     let answered = h.answered ++ g.answered in
     let said = h.answered ++ g.said in
@@ -70,17 +82,23 @@ put_failed_after from at n d old mid new h g =
       held = g.held;
       front = length (spell_replies h.answered) + g.front;
       exchange = subst (λ (p : Option (List ℕ)). Exchange old (with_put p (before_taking g.held new)) (h.asked ++ g.asked) answered) puts both;
-      is_said = said_after h.answered g.held g.answered g.said g.is_said;
+      quits = quits_after h.asked g.asked g.held h.no_quit g.quits;
+      is_said = said_after h.answered (from + length (spell_requests (h.asked ++ g.asked))) (at + length (spell_requests g.asked)) (omega (arith, h.place, ap length (spell_requests-append h.asked g.asked), length-append (spell_requests h.asked) (spell_requests g.asked))) g.held g.answered g.said g.is_said;
       put_is = g.put_is
           ∙ ap (λ (p : Option (List ℕ)). append_known p (take g.front (spell_replies g.said))) h.exchange.replies
           ∙ append_known-twice old.put (spell_replies h.answered) (take g.front (spell_replies g.said))
           ∙ ap (append_known old.put) (sym (take-append-add (spell_replies h.answered) (spell_replies g.said) g.front) ∙ ap (take (length (spell_replies h.answered) + g.front)) (sym (spell_replies-append h.answered g.said)));
+      whole = omega (arith, but_last-append h.answered g.said, g.whole);
       count = omega (arith, h.count, g.count, length-append h.answered g.said);
     }
   where
-    said_after : (first : List Reply) (held : List ℕ) (answered said : List Reply) → Decided held answered said → Decided held (first ++ answered) (first ++ said)
-    said_after first held answered said (inl e) = inl (ap (λ (rs : List Reply). first ++ rs) e)
-    said_after first held answered said (inr (at, code, refused, e)) = inr (at, code, refused, ap (λ (rs : List Reply). first ++ rs) e ∙ sym (append_assoc first answered (BadMessage at code ∷ [])))
+    quits_after : (first asked : List Request) (held : List ℕ) → NoQuit first → NoQuit asked ⊎ (EndsWithQuit asked × (held ≡ [])) → NoQuit (first ++ asked) ⊎ (EndsWithQuit (first ++ asked) × (held ≡ []))
+    quits_after first asked held none (inl no_quit) = inl (all-append (λ (q : Request). is_quit q ≡ false) first asked none no_quit)
+    quits_after first asked held none (inr ((front, is, no_quit), nothing)) = inr ((first ++ front, ap (λ (qs : List Request). first ++ qs) is ∙ sym (append_assoc first front (Quit ∷ [])), all-append (λ (q : Request). is_quit q ≡ false) first front none no_quit), nothing)
+
+    said_after : (first : List Reply) (place other : ℕ) → other ≡ place → (held : List ℕ) (answered said : List Reply) → Decided other held answered said → Decided place held (first ++ answered) (first ++ said)
+    said_after first place other same held answered said (inl (lacks, e)) = inl (lacks, ap (λ (rs : List Reply). first ++ rs) e)
+    said_after first place other same held answered said (inr (code, refused, e)) = inr (code, refused, ap (λ (rs : List Reply). first ++ rs) e ∙ sym (append_assoc first answered (BadMessage other code ∷ [])) ∙ ap (λ (at : ℕ). (first ++ answered) ++ BadMessage at code ∷ []) same)
 
 pub ended_after : (end : SessionEnd) (from at n d : ℕ) (old mid new : Scene) → (end ≡ Memory → ⊥) → SoFar from old mid at n → SessionEnds end at mid new d → SessionEnds end from old new (n + d)
 ended_after Quitted from at n d old mid new ne h (asked, answered, exchange, no_quit, count) =
@@ -91,7 +109,7 @@ ended_after End from at n d old mid new ne h g = (g.0, SoFar-both from at g.0 n 
 ended_after (Cut to) from at n d old mid new ne h g = (g.0, SoFar-both from at to n d old mid (before_taking g.0 new) h g.1, g.2, g.3, g.4)
 ended_after (Bad to code) from at n d old mid new ne h g = (g.0, g.1, n + g.2, SoFar-both from at to n g.2 old mid (with_put g.1 (before_taking g.0 new)) h g.3, g.4, g.5, omega (arith, g.6))
 ended_after Spent from at n d old mid new ne h g = (g.0, g.1, SoFar-both from at g.1 n d old mid (before_taking g.0 new) h g.2, g.3, g.4)
-ended_after SourceFault from at n d old mid new ne h g = (g.0, g.1, SoFar-both from at g.1 n d old mid (before_taking g.0 new) h g.2)
+ended_after SourceFault from at n d old mid new ne h g = (g.0, g.1, SoFar-both from at g.1 n d old mid (before_taking g.0 new) h g.2, g.3)
 ended_after SinkFault from at n d old mid new ne h g = put_failed_after from at n d old mid new h g
 ended_after Memory from at n d old mid new ne h g = absurd (ne refl)
 
@@ -101,16 +119,18 @@ ended_after Memory from at n d old mid new ne h g = absurd (ne refl)
 exchange_put : (old new : Scene) (held : List ℕ) (asked : List Request) (answered : List Reply) → Exchange old (before_taking held new) asked answered → Exchange old (with_put (append_known old.put (spell_replies answered)) (before_taking held new)) asked answered
 exchange_put old new held asked answered e = record { requests = e.requests; came = e.came; replies = refl; answers = e.answers; counts = e.counts; units = e.units }
 
-failed_from : (old new : Scene) (held : List ℕ) (asked : List Request) (answered : List Reply) (d : ℕ) → Exchange old (before_taking held new) asked answered → d ≡ length answered → PutFailed old new d
-failed_from old new held asked answered d e count = record {
+failed_from : (from : ℕ) (old new : Scene) (held : List ℕ) (asked : List Request) (answered : List Reply) (d : ℕ) → Exchange old (before_taking held new) asked answered → NoQuit asked ⊎ (EndsWithQuit asked × (held ≡ [])) → d ≡ length answered → 0 < wanted held → PutFailed from old new d
+failed_from from old new held asked answered d e quits count lacks = record {
   asked = asked;
   answered = answered;
   said = answered;
   held = held;
   front = length (spell_replies answered);
   exchange = exchange_put old new held asked answered e;
-  is_said = inl refl;
+  quits = quits;
+  is_said = inl (lacks, refl);
   put_is = e.replies ∙ ap (append_known old.put) (sym (take_all (length (spell_replies answered)) (spell_replies answered) (omega arith)));
+  whole = but_last-most answered;
   count = count;
 }
 
@@ -125,11 +145,11 @@ nothing_held old new asked answered e = record {
   units = e.units;
 }
 
-pub flush_failed : (end : SessionEnd) (from d : ℕ) (old new : Scene) → (end ≡ Memory → ⊥) → SessionEnds end from old new d → PutFailed old new d
+pub flush_failed : (end : SessionEnd) (from d : ℕ) (old new : Scene) → (end ≡ Memory → ⊥) → SessionEnds end from old new d → PutFailed from old new d
 flush_failed Quitted from d old new ne (asked, answered, exchange, no_quit, count) =
-    failed_from old new [] (asked ++ Quit ∷ []) (answered ++ Bye ∷ []) d (nothing_held old new (asked ++ Quit ∷ []) (answered ++ Bye ∷ []) exchange) (omega (arith, count, length-append answered (Bye ∷ [])))
-flush_failed End from d old new ne (at, so_far, nothing) = failed_from old new [] so_far.asked so_far.answered d (nothing_held old new so_far.asked so_far.answered so_far.exchange) so_far.count
-flush_failed (Cut at) from d old new ne (held, so_far, some, lacks, nothing) = failed_from old new held so_far.asked so_far.answered d so_far.exchange so_far.count
+    failed_from from old new [] (asked ++ Quit ∷ []) (answered ++ Bye ∷ []) d (nothing_held old new (asked ++ Quit ∷ []) (answered ++ Bye ∷ []) exchange) (inr ((asked, refl, no_quit), refl)) (omega (arith, count, length-append answered (Bye ∷ []))) (omega arith)
+flush_failed End from d old new ne (at, so_far, nothing) = failed_from from old new [] so_far.asked so_far.answered d (nothing_held old new so_far.asked so_far.answered so_far.exchange) (inl so_far.no_quit) so_far.count (omega arith)
+flush_failed (Cut at) from d old new ne (held, so_far, some, lacks, nothing) = failed_from from old new held so_far.asked so_far.answered d so_far.exchange (inl so_far.no_quit) so_far.count lacks
 flush_failed (Bad at code) from d old new ne (held, put, others, so_far, refused, put_is, count) =
     let answered = so_far.answered in
     let said = answered ++ BadMessage at code ∷ [] in
@@ -141,15 +161,17 @@ flush_failed (Bad at code) from d old new ne (held, put, others, so_far, refused
       held = held;
       front = length (spell_replies said);
       exchange = record { requests = e.requests; came = e.came; replies = refl; answers = e.answers; counts = e.counts; units = e.units };
-      is_said = inr (at, code, refused, refl);
+      quits = inl so_far.no_quit;
+      is_said = inr (code, refused, ap (λ (place : ℕ). answered ++ BadMessage place code ∷ []) so_far.place);
       put_is = put_is
           ∙ ap (λ (p : Option (List ℕ)). append_known p (spell_reply (BadMessage at code))) e.replies
           ∙ append_known-twice old.put (spell_replies answered) (spell_reply (BadMessage at code))
           ∙ ap (append_known old.put) (ap (λ (t : List ℕ). spell_replies answered ++ t) (sym (append-nil (spell_reply (BadMessage at code)))) ∙ sym (spell_replies-append answered (BadMessage at code ∷ [])) ∙ sym (take_all (length (spell_replies said)) (spell_replies said) (omega arith)));
+      whole = but_last-most said;
       count = omega (arith, count, so_far.count, length-append answered (BadMessage at code ∷ []));
     }
-flush_failed Spent from d old new ne (held, at, so_far, full, lacks) = failed_from old new held so_far.asked so_far.answered d so_far.exchange so_far.count
-flush_failed SourceFault from d old new ne (held, at, so_far) = failed_from old new held so_far.asked so_far.answered d so_far.exchange so_far.count
+flush_failed Spent from d old new ne (held, at, so_far, full, lacks) = failed_from from old new held so_far.asked so_far.answered d so_far.exchange (inl so_far.no_quit) so_far.count lacks
+flush_failed SourceFault from d old new ne (held, at, so_far, lacks) = failed_from from old new held so_far.asked so_far.answered d so_far.exchange (inl so_far.no_quit) so_far.count lacks
 flush_failed SinkFault from d old new ne g = g
 flush_failed Memory from d old new ne g = absurd (ne refl)
 

@@ -1,10 +1,10 @@
 -- What one turn of a session comes to, by the names of its steps. Nothing is held when a turn begins.
-use Rattle.std.proofs.Common.{◌≡◌, ℕ, ◌+◌, ◌<◌, List, [], ◌∷◌, length, take, Option, refl, sym, ap, subst, ◌∙◌, arith, inl, inr}
+use Rattle.std.proofs.Common.{◌≡◌, ℕ, ◌+◌, ◌<◌, List, [], ◌∷◌, length, take, Option, refl, sym, ap, subst, ◌∙◌, arith, inl, inr, ◌⊎◌}
 use Rattle.std.specs.Prelude.{IfSome}
 use Rattle.std.specs.Io.KnownBytes.{prepend_known, append_known}
 use Rattle.std.proofs.lemmas.List.{append-nil, nil_from_length}
 use Rattle.history_core.specs.declared.request.Request.{Request}
-use Rattle.history_core.specs.declared.request.Request.TheVariants.{Quit}
+use Rattle.history_core.specs.declared.request.Request.TheVariants.{Put, Get, Quit}
 use Rattle.history_core.specs.declared.reply.Reply.{Reply}
 use Rattle.history_core.specs.declared.reply.Reply.TheVariants.{Bye, BadMessage}
 use Rattle.wire_protocol.specs.Grammar.{spell_request, spell_reply, spell_replies, IsRequest}
@@ -13,7 +13,7 @@ use Rattle.disk_model.specs.Piles.{number_at}
 use Rattle.session_core.specs.declared.filling.TheConstants.{SESSION_MAX}
 use Rattle.session_core.specs.declared.session_end.SessionEnd.TheVariants.{End, Quit as Quitted, Bad, Cut, Spent, SourceFault, SinkFault}
 use Rattle.session_core.specs.Telling.{StoreState, Answered}
-use Rattle.session_core.specs.Conversations.{Scene, Exchange, SoFar, SessionEnds, PutFailed, IsRefused, before_taking, with_put}
+use Rattle.session_core.specs.Conversations.{Scene, Exchange, SoFar, NoQuit, EndsWithQuit, SessionEnds, PutFailed, IsRefused, before_taking, with_put}
 use Rattle.session_core.specs.Turns.{DecidesReply}
 use Rattle.session_core.proofs.Exchanges.{prepend_known-nil, append_known-nil, nothing_exchanged, exchange_one, so_far_none}
 
@@ -47,9 +47,9 @@ pub turn_spent : (old new : Held) (before : Scene) (coming : Option (List ℕ)) 
 turn_spent old new before coming empty e p full lacks =
     (new.bytes, old.at, so_far_none old.at before (before_taking new.bytes (after_taking coming before)) (only_taken old new before coming empty e), omega (arith, full, p), lacks)
 
-pub turn_source_failed : (old new : Held) (before : Scene) (coming : Option (List ℕ)) → old.bytes ≡ [] → prepend_known new.bytes coming ≡ prepend_known old.bytes before.coming → SessionEnds SourceFault old.at before (after_taking coming before) 0
-turn_source_failed old new before coming empty e =
-    (new.bytes, old.at, so_far_none old.at before (before_taking new.bytes (after_taking coming before)) (only_taken old new before coming empty e))
+pub turn_source_failed : (old new : Held) (before : Scene) (coming : Option (List ℕ)) → old.bytes ≡ [] → prepend_known new.bytes coming ≡ prepend_known old.bytes before.coming → 0 < wanted new.bytes → SessionEnds SourceFault old.at before (after_taking coming before) 0
+turn_source_failed old new before coming empty e lacks =
+    (new.bytes, old.at, so_far_none old.at before (before_taking new.bytes (after_taking coming before)) (only_taken old new before coming empty e), lacks)
 
 -- what came is the request that was held
 request_came : (old new : Held) (came coming : Option (List ℕ)) (request : Request) → old.bytes ≡ [] → prepend_known new.bytes coming ≡ prepend_known old.bytes came → new.bytes ≡ spell_request request → came ≡ prepend_known (spell_request request) coming
@@ -59,8 +59,14 @@ pub turn_quit : (old new : Held) (before after : Scene) → old.bytes ≡ [] →
 turn_quit old new before after empty e is answered put =
     ([], [], exchange_one before after Quit Bye tt (request_came old new before.coming after.coming Quit empty e is) put answered, tt, omega arith)
 
+-- one request quits or not, and then nothing is held
+one_quits : (request : Request) (held : List ℕ) → held ≡ [] → NoQuit (request ∷ []) ⊎ (EndsWithQuit (request ∷ []) × (held ≡ []))
+one_quits (Put row) held none = inl (refl, tt)
+one_quits (Get key) held none = inl (refl, tt)
+one_quits Quit held none = inr (([], refl, tt), none)
+
 -- the sink took a front of the reply to a request
-reply_failed : (old new : Held) (before after : Scene) (request : Request) (reply : Reply) (front : ℕ) → old.bytes ≡ [] → prepend_known new.bytes after.coming ≡ prepend_known old.bytes before.coming → new.bytes ≡ spell_request request → IsRequest request → Answered before.store after.store request reply → after.put ≡ append_known before.put (take front (spell_reply reply)) → PutFailed before after 1
+reply_failed : (old new : Held) (before after : Scene) (request : Request) (reply : Reply) (front : ℕ) → old.bytes ≡ [] → prepend_known new.bytes after.coming ≡ prepend_known old.bytes before.coming → new.bytes ≡ spell_request request → IsRequest request → Answered before.store after.store request reply → after.put ≡ append_known before.put (take front (spell_reply reply)) → PutFailed old.at before after 1
 reply_failed old new before after request reply front empty e is fits answered put =
     let put_all = append_known before.put (spell_replies (reply ∷ [])) in
     record {
@@ -70,8 +76,10 @@ reply_failed old new before after request reply front empty e is fits answered p
       held = [];
       front = front;
       exchange = exchange_one before (with_put put_all (before_taking [] after)) request reply fits (request_came old new before.coming after.coming request empty e is ∙ ap (prepend_known (spell_request request)) (sym (prepend_known-nil after.coming))) (ap (append_known before.put) (append-nil (spell_reply reply))) answered;
-      is_said = inl refl;
+      quits = one_quits request [] refl;
+      is_said = inl (omega arith, refl);
       put_is = put ∙ ap (λ (t : List ℕ). append_known before.put (take front t)) (sym (append-nil (spell_reply reply)));
+      whole = omega arith;
       count = refl;
     }
 
@@ -90,8 +98,8 @@ turn_bad old new before after at code empty e p a refused same put =
     let scene = with_put before.put (before_taking new.bytes after) in
     (new.bytes, before.put, 0, so_far_at old.at at 0 before scene (a ∙ p) (so_far_none old.at before scene (unput old new before after empty e same)), refused, put, refl)
 
-pub turn_refusal_failed : (old new : Held) (before after : Scene) (at code front : ℕ) → old.bytes ≡ [] → prepend_known new.bytes after.coming ≡ prepend_known old.bytes before.coming → IsRefused new.bytes code → after.store ≡ before.store → after.put ≡ append_known before.put (take front (spell_reply (BadMessage at code))) → SessionEnds SinkFault old.at before after 1
-turn_refusal_failed old new before after at code front empty e refused same put =
+pub turn_refusal_failed : (old new : Held) (before after : Scene) (at code front : ℕ) → old.bytes ≡ [] → prepend_known new.bytes after.coming ≡ prepend_known old.bytes before.coming → new.at ≡ old.at → at ≡ new.at → IsRefused new.bytes code → after.store ≡ before.store → after.put ≡ append_known before.put (take front (spell_reply (BadMessage at code))) → SessionEnds SinkFault old.at before after 1
+turn_refusal_failed old new before after at code front empty e p a refused same put =
     record {
       asked = [];
       answered = [];
@@ -99,7 +107,9 @@ turn_refusal_failed old new before after at code front empty e refused same put 
       held = new.bytes;
       front = front;
       exchange = subst (λ (p : Option (List ℕ)). Exchange before (with_put p (before_taking new.bytes after)) [] []) (sym (append_known-nil before.put)) (unput old new before after empty e same);
-      is_said = inr (at, code, refused, refl);
+      quits = inl tt;
+      is_said = inr (code, refused, ap (λ (place : ℕ). BadMessage place code ∷ []) (omega (arith, a, p)));
       put_is = put ∙ ap (λ (t : List ℕ). append_known before.put (take front t)) (sym (append-nil (spell_reply (BadMessage at code))));
+      whole = omega arith;
       count = refl;
     }

@@ -1,5 +1,5 @@
 -- What came and what was put in a session, up to its end.
-use Rattle.std.specs.Prelude.{◌≡◌, ◌⊎◌, ℕ, ◌+◌, ◌<◌, List, [], ◌∷◌, ◌++◌, length, take, Option, Some, Bool, true, false, IfSome}
+use Rattle.std.specs.Prelude.{◌≡◌, ◌⊎◌, ℕ, ◌+◌, ◌<◌, ◌≤◌, List, [], ◌∷◌, ◌++◌, length, take, Option, Some, Bool, true, false, IfSome}
 use Rattle.std.specs.List.{AllByRecursion}
 use Rattle.std.specs.Io.KnownBytes.{prepend_known, append_known}
 use Rattle.disk_model.specs.Piles.{Units, number_at}
@@ -51,6 +51,10 @@ is_quit Quit = true
 abbrev pub NoQuit : List Request → Type 0
 NoQuit asked = AllByRecursion (λ request. is_quit request ≡ false) asked
 
+-- the last of these asks the session to end, and none before it does
+abbrev pub EndsWithQuit : List Request → Type 0
+EndsWithQuit asked = (front : List Request) × (asked ≡ front ++ Quit ∷ []) × NoQuit front
+
 -- A session that began at a place of the input, so far: where the next message begins, and how many replies were decided.
 pub record SoFar (from : ℕ) (old new : Scene) (at decided : ℕ) : Type 0 where
   pub asked : List Request
@@ -70,20 +74,30 @@ pub record IsRefused (held : List ℕ) (code : ℕ) : Type 0 where
   pub code_is : refusal held ≡ Some code
   pub within : IsWithin held
 
--- the replies that were decided: those to the requests, and behind them the refusal of a message, if it was refused
-abbrev pub Decided : List ℕ → List Reply → List Reply → Type 0
-Decided held answered said = (said ≡ answered) ⊎ ((at : ℕ) × (code : ℕ) × IsRefused held code × (said ≡ answered ++ BadMessage at code ∷ []))
+-- The replies that were decided, where these bytes are held of the message at this place: those to the requests before it,
+-- where the message lacks bytes; and behind them its refusal, where it was refused.
+abbrev pub Decided : ℕ → List ℕ → List Reply → List Reply → Type 0
+Decided place held answered said = ((0 < wanted held) × (said ≡ answered)) ⊎ ((code : ℕ) × IsRefused held code × (said ≡ answered ++ BadMessage place code ∷ []))
 
--- a session whose sink failed: a front of what was to be put is there
-pub record PutFailed (old new : Scene) (decided : ℕ) : Type 0 where
+-- these replies without the last one
+abbrev pub but_last : List Reply → List Reply
+but_last [] = []
+but_last (reply ∷ []) = []
+but_last (reply ∷ (next ∷ replies)) = reply ∷ but_last (next ∷ replies)
+
+-- A session whose sink failed: a front of what was to be put is there, and in it each reply but the last. Nothing was
+-- taken behind a QUIT.
+pub record PutFailed (from : ℕ) (old new : Scene) (decided : ℕ) : Type 0 where
   pub asked : List Request
   pub answered : List Reply
   pub said : List Reply
   pub held : List ℕ
   pub front : ℕ
   pub exchange : Exchange old (with_put (append_known old.put (spell_replies answered)) (before_taking held new)) asked answered
-  pub is_said : Decided held answered said
+  pub quits : NoQuit asked ⊎ (EndsWithQuit asked × (held ≡ []))
+  pub is_said : Decided (from + length (spell_requests asked)) held answered said
   pub put_is : new.put ≡ append_known old.put (take front (spell_replies said))
+  pub whole : length (spell_replies (but_last said)) ≤ front
   pub count : decided ≡ length said
 
 -- how a session ended that began at this place, and how many replies were decided in it
@@ -98,8 +112,9 @@ SessionEnds (Cut at) from old new decided = (held : List ℕ) × SoFar from old 
 SessionEnds (Bad at code) from old new decided = (held : List ℕ) × (put : Option (List ℕ)) × (others : ℕ) × SoFar from old (with_put put (before_taking held new)) at others × IsRefused held code × (new.put ≡ append_known put (spell_reply (BadMessage at code))) × (decided ≡ others + 1)
 -- as many bytes were taken as a session takes, and a message still lacks some
 SessionEnds Spent from old new decided = (held : List ℕ) × (at : ℕ) × SoFar from old (before_taking held new) at decided × (at + length held ≡ SESSION_MAX) × (0 < wanted held)
-SessionEnds SourceFault from old new decided = (held : List ℕ) × (at : ℕ) × SoFar from old (before_taking held new) at decided
-SessionEnds SinkFault from old new decided = PutFailed old new decided
+-- the source failed where bytes of a message were lacking
+SessionEnds SourceFault from old new decided = (held : List ℕ) × (at : ℕ) × SoFar from old (before_taking held new) at decided × (0 < wanted held)
+SessionEnds SinkFault from old new decided = PutFailed from old new decided
 -- nothing happened
 SessionEnds Memory from old new decided = Exchange old new [] [] × (decided ≡ 0)
 

@@ -1,15 +1,14 @@
-use Rattle.std.proofs.Common.{ℕ, ◌≡◌, ◌≤◌, ◌<◌, Option, Some, None, refl, ap, sym, subst, ◌∙◌, arith, List, [], inl, inr}
+use Rattle.std.proofs.Common.{ℕ, ◌+◌, ◌≡◌, ◌≤◌, Option, Some, refl, ap, sym, subst, ◌∙◌, arith, inl, inr}
 use Rattle.link_model.specs.Faults.{Rose as LinkRose}
-use Rattle.disk_model.specs.Piles.{number_at}
-use Rattle.session_core.specs.Machines.{MapState}
-use Rattle.frame_journal.specs.Frames.{frames_of}
-use Rattle.remixdb.specs.Lent.{told_bytes, IsStripLent}
+use Rattle.remixdb.specs.Lent.{IsStripLent}
 use Rattle.remixdb.specs.Logged.{log_of, log_bytes}
-use Rattle.remixdb.specs.MapRows.{MapRows}
-use Rattle.remixdb.specs.Outcomes.{status_of, short_of, failed_of, least_of, IsCleanOfDevices}
-use Rattle.remixdb.proofs.Rising.{risen_rose, risen_kept, streams_rose}
-use Rattle.remixdb.proofs.Scripting.{script_tells, refused_tells, counts_at}
-use Rattle.remixdb.proofs.Failing.{session_told, session_later, session_tells, none_told, failed_rose, clean_kept, stream_ended}
+use Rattle.remixdb.specs.Scripts.{state_of}
+use Rattle.session_core.specs.declared.session_end.SessionEnd.{SessionEnd}
+use Rattle.session_core.specs.declared.session_end.SessionEnd.TheVariants.{SourceFault, SinkFault}
+use Rattle.remixdb.specs.Outcomes.{status_of, short_of, failed_of, least_of, outcome_by, IsCleanOfDevices, IsCleanOfStreams}
+use Rattle.remixdb.proofs.Rising.{risen_rose, risen_kept, streams_rose, streams_kept}
+use Rattle.remixdb.proofs.Scripting.{script_tells, refused_tells, fresh_of}
+use Rattle.remixdb.proofs.Failing.{session_told, session_later, session_tells, none_told, failed_rose, clean_kept, all_told, stream_ended, source_unclean, sink_unclean}
 use Rattle.remixdb.proofs.script.script.Goals as goal
 
 pub give_back-requires-2-clause-lent : goal.give_back-requires-2-clause-lent
@@ -45,17 +44,41 @@ returns-clause-stream_failed g c = λ five.
     let rose = streams_rose _ _ _ _ _ _ _ c.streams-source.ensures.lent (omega (arith, c.streams-source.ensures.source_within, c.streams-source.ensures.faults)) (omega (arith, c.streams-source.ensures.sink_within, c.streams-source.ensures.faults)) run.source_later run.sink_later c.give_streams.ensures.faults (elim ended [ inl is ↦ inl (run.source_failed is) | inr is ↦ inr (run.sink_failed is) ]) in
     subst (λ (n : ℕ). LinkRose (g.H.Host.stream_faults c.args.host.now) n) (sym after) (subst (λ (n : ℕ). LinkRose n (g.H.Host.stream_faults c.give_streams.new.self)) before rose)
 
+pub returns-clause-stream_kept : goal.returns-clause-stream_kept
+returns-clause-stream_kept g c = λ clean.
+    let one = short_of c.make_ready-cleared.result in
+    let two = short_of c.close-strip.result.1 in
+    let failed = least_of (failed_of c.make_ready-cleared.result) (least_of c.least_device.result (failed_of c.close-strip.result.1)) in
+    let run = c.run_session-end.ensures in
+    let by_end : IsCleanOfStreams (status_of (outcome_by one two failed c.run_session-end.result.end)) = subst (λ (n : ℕ). IsCleanOfStreams n) (ap status_of c.of_run.ensures) clean in
+    let no_source : c.run_session-end.result.end ≡ SourceFault → ⊥ = λ e. source_unclean one two failed (subst (λ (end : SessionEnd). IsCleanOfStreams (status_of (outcome_by one two failed end))) e by_end) in
+    let no_sink : c.run_session-end.result.end ≡ SinkFault → ⊥ = λ e. sink_unclean one two failed (subst (λ (end : SessionEnd). IsCleanOfStreams (status_of (outcome_by one two failed end))) e by_end) in
+    c.give_back-2.ensures.streams.3
+    ∙ streams_kept _ _ _ _ _ _ _ c.streams-source.ensures.lent c.give_streams.ensures.faults (run.source_kept no_source no_sink) (run.sink_kept no_sink)
+    ∙ c.streams-source.ensures.faults ∙ c.strip-strip.ensures.streams.3
+
+pub returns-in-Err-clause-bytes : goal.returns-in-Err-clause-bytes
+returns-in-Err-clause-bytes g c =
+    refused_tells g.H.Strip.Strip c.strip-strip.result c.in-Err.strip c.in-Err.error (state_of g.H.Host c.args.host.now) (state_of g.H.Host c.give_back.new.self) (status_of c.of_refusal.result)
+    c.in-Err.ensures.torn c.in-Err.ensures.back.0 c.in-Err.ensures.back.1
+    (sym c.strip-strip.ensures.bytes) c.give_back.ensures.bytes
+    (c.give_back.ensures.streams.0 ∙ c.strip-strip.ensures.streams.0) (c.give_back.ensures.streams.1 ∙ c.strip-strip.ensures.streams.1)
+    (ap status_of c.of_refusal.ensures)
+
 pub returns-clause-bytes : goal.returns-clause-bytes
 returns-clause-bytes g c = λ i b is_i is_b.
     let strip = g.H.Strip.Strip in
     let ready = c.make_ready-cleared.new.self in
     let pass = c.run_session-end.new.pass in
+    let run = c.run_session-end.ensures in
     let log = log_of strip ready.journal ready.kept.items in
-    let fresh_map = ap (λ (m : MapRows). record { rows = m.rows; number = m.number; log = log }) (c.make_ready-cleared.ensures.map ∙ c.in-Ok.ensures.empty) in
-    let same = session_tells c.run_session-end.result.end 0 _ _ _ _ _ _ _ (strip.count ready.journal.strip) (strip.count pass.journal.strip) _ (strip.tells ready.journal.strip) (strip.tells pass.journal.strip) (log_bytes strip ready.journal ready.kept.items) (log_bytes strip pass.journal pass.kept.items) refl refl c.run_session-end.ensures.out in
+    let same = session_tells c.run_session-end.result.end 0 _ _ _ _ _ _ _ (strip.count ready.journal.strip) (strip.count pass.journal.strip) _ (strip.tells ready.journal.strip) (strip.tells pass.journal.strip) (log_bytes strip ready.journal ready.kept.items) (log_bytes strip pass.journal pass.kept.items) refl refl run.out in
+    let lent = c.give_streams.ensures.strip.1 ∙ c.streams-source.ensures.strip.1 ∙ c.strip-strip.ensures.lent ∙ ap (λ (n : ℕ). Some n) (sym c.in-Ok.ensures.count) in
+    let faults = c.give_streams.ensures.strip.2 ∙ c.streams-source.ensures.strip.2 ∙ c.strip-strip.ensures.faults in
+    let before = c.streams-source.ensures.faults ∙ c.strip-strip.ensures.streams.3 in
     script_tells strip c.strip-strip.result c.close-strip.result.0 c.make_ready-cleared.result c.least_device.result c.close-strip.result.1 c.run_session-end.result.end c.run_session-end.result.replies
-    _ _ _ _ _ _ log (strip.count ready.journal.strip) (strip.count pass.journal.strip) _ (g.H.Host.output c.give_back-2.new.self) (g.H.Host.strip_bytes c.args.host.now) (g.H.Host.strip_bytes c.give_back-2.new.self) (status_of c.of_run.result)
-    fresh_map
+    _ _ _ _ _ _ log (strip.count ready.journal.strip) (strip.count pass.journal.strip) _ (state_of g.H.Host c.args.host.now) (state_of g.H.Host c.give_back-2.new.self) (status_of c.of_run.result)
+    (fresh_of log ready.map (c.make_ready-cleared.ensures.map ∙ c.in-Ok.ensures.empty))
     (record {
       tells = c.close-strip.ensures.strip.tells ∙ same ∙ c.make_ready-cleared.ensures.log.tells ∙ c.in-Ok.ensures.strip.tells;
       begins = λ t. c.make_ready-cleared.ensures.log.log ∙ c.in-Ok.ensures.log t;
@@ -63,7 +86,12 @@ returns-clause-bytes g c = λ i b is_i is_b.
       none = c.in-Ok.ensures.whole;
     })
     (sym c.strip-strip.ensures.bytes) c.give_back-2.ensures.bytes
+    (c.give_back-2.ensures.streams.0 ∙ c.give_streams.ensures.input) (c.give_back-2.ensures.streams.1 ∙ c.give_streams.ensures.output)
     (none_told c.least_device.result _ _ c.least_device.ensures)
-    (c.give_back-2.ensures.streams.1 ∙ c.give_streams.ensures.output) (ap status_of c.of_run.ensures)
-    c.run_session-end.ensures.out
+    (λ number counted all below short. all_told c.close-strip.result.1 _ _ _ _ _ _ _ number _ lent (omega (arith, faults, c.strip-strip.ensures.within, c.in-Ok.ensures.count)) c.make_ready-cleared.ensures.cause.later counted c.close-strip.ensures.cause c.give_back-2.ensures.faults (all ∙ ap (λ (n : ℕ). n + number) (sym faults)) below short)
+    (λ ended.
+    let rose = streams_rose _ _ _ _ _ _ _ c.streams-source.ensures.lent (omega (arith, c.streams-source.ensures.source_within, c.streams-source.ensures.faults)) (omega (arith, c.streams-source.ensures.sink_within, c.streams-source.ensures.faults)) run.source_later run.sink_later c.give_streams.ensures.faults (elim ended [ inl is ↦ inl (run.source_failed is) | inr is ↦ inr (run.sink_failed is) ]) in
+    subst (λ (n : ℕ). LinkRose (g.H.Host.stream_faults c.args.host.now) n) (sym c.give_back-2.ensures.streams.3) (subst (λ (n : ℕ). LinkRose n (g.H.Host.stream_faults c.give_streams.new.self)) before rose))
+    (ap status_of c.of_run.ensures)
+    run.out
     i b (c.streams-source.ensures.input ∙ c.strip-strip.ensures.streams.0 ∙ is_i) (c.streams-source.ensures.output ∙ c.strip-strip.ensures.streams.1 ∙ is_b)

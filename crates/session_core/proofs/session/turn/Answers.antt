@@ -13,7 +13,7 @@ returns-in-Ended-clause-out g c =
 
 pub returns-in-Failed-clause-out : goal.returns-in-Failed-clause-out
 returns-in-Failed-clause-out g c =
-    turn_source_failed c.args.rooms.now.decoder c.fill.new.decoder (scene_of (g.R.Source.left c.args.source.now) (g.W.Sink.written c.args.sink.now) (g.A.Answers.map c.args.pass.now) (g.A.Answers.counts c.args.pass.now) c.args.faults.now) (g.R.Source.left c.fill.new.source) c.requires.start c.in-Failed.ensures.came
+    turn_source_failed c.args.rooms.now.decoder c.fill.new.decoder (scene_of (g.R.Source.left c.args.source.now) (g.W.Sink.written c.args.sink.now) (g.A.Answers.map c.args.pass.now) (g.A.Answers.counts c.args.pass.now) c.args.faults.now) (g.R.Source.left c.fill.new.source) c.requires.start c.in-Failed.ensures.came (c.in-Failed.ensures.lacks (λ e. cc))
 
 pub returns-in-Spent-clause-out : goal.returns-in-Spent-clause-out
 returns-in-Spent-clause-out g c =
@@ -29,7 +29,7 @@ returns-in_default-send-clause-out g c =
 
 pub returns-in_default-send-2-clause-out : goal.returns-in_default-send-2-clause-out
 returns-in_default-send-2-clause-out g c =
-    turn_refusal_failed c.args.rooms.now.decoder c.fill.new.decoder (scene_of (g.R.Source.left c.args.source.now) (g.W.Sink.written c.args.sink.now) (g.A.Answers.map c.args.pass.now) (g.A.Answers.counts c.args.pass.now) c.args.faults.now) (scene_of (g.R.Source.left c.fill.new.source) (g.W.Sink.written c.send-in-Refuses.new.sink) (g.A.Answers.map c.decide.new.pass) (g.A.Answers.counts c.decide.new.pass) c.decide.new.faults) c.in-Refuses.at c.in-Refuses.code c.in_default-send-2.ensures.bytes.0 c.requires.start c.in-Whole.ensures.came c.in-Refuses.ensures.decides.1 c.in-Refuses.ensures.decides.3 c.in_default-send-2.ensures.bytes.2
+    turn_refusal_failed c.args.rooms.now.decoder c.fill.new.decoder (scene_of (g.R.Source.left c.args.source.now) (g.W.Sink.written c.args.sink.now) (g.A.Answers.map c.args.pass.now) (g.A.Answers.counts c.args.pass.now) c.args.faults.now) (scene_of (g.R.Source.left c.fill.new.source) (g.W.Sink.written c.send-in-Refuses.new.sink) (g.A.Answers.map c.decide.new.pass) (g.A.Answers.counts c.decide.new.pass) c.decide.new.faults) c.in-Refuses.at c.in-Refuses.code c.in_default-send-2.ensures.bytes.0 c.requires.start c.in-Whole.ensures.came c.in-Whole.ensures.place c.in-Refuses.ensures.decides.0 c.in-Refuses.ensures.decides.1 c.in-Refuses.ensures.decides.3 c.in_default-send-2.ensures.bytes.2
 
 pub returns-in-Ok-send-clause-out : goal.returns-in-Ok-send-clause-out
 returns-in-Ok-send-clause-out g c =

@@ -1,4 +1,4 @@
-use Rattle.std.proofs.Common.{◌≡◌, ◌+◌, List, sym, ap, ◌∙◌}
+use Rattle.std.proofs.Common.{◌+◌, List, ap, ◌∙◌}
 use Rattle.rdb_base.specs.declared.row.Row.{Row}
 use Rattle.rdb_base.specs.Maps.{changed}
 use Rattle.rdb_base.specs.declared.change.Change.TheVariants.{Put}

@@ -1,4 +1,3 @@
-use Rattle.std.proofs.Common.{arith}
 use Rattle.remixdb.proofs.Rising.{risen_with-sum}
 use Rattle.remixdb.proofs.strip_lending.StripLending.take_back.Goals as goal
 
