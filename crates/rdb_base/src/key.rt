@@ -9,6 +9,7 @@ ghost use Rattle.rdb_base.specs.Answers.{KeyAnswer};
 ghost use Rattle.rdb_base.specs.Order.{key_cmp};
 
 use crate::NoMemory;
+use crate::byte_order::order;
 use crate::key_error::KeyError;
 use crate::limits::KEY_MAX;
 use crate::steps::Steps;
@@ -100,7 +101,7 @@ impl Ord for Key {
     ghost matches_eq = { Prim.search (comparing, rules) };
 
     fn cmp(&self, other: &Key) -> Ordering {
-        self.bytes.as_slice().cmp(other.bytes.as_slice())
+        order(self.bytes.as_slice(), other.bytes.as_slice())
     }
 }
 

@@ -9,6 +9,7 @@
 //! Leaves open  that memory is there
 #![tactic(auto)]
 
+mod byte_order;
 mod change;
 mod entry;
 mod key;
