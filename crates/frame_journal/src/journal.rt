@@ -16,6 +16,7 @@ use crate::{Frame, JournalError};
 use disk_model::{DeviceError, Strip};
 use std::alloc::{AllocError, Global};
 use std::marker::Model;
+use std::mem;
 
 /// A strip that stands for a list of frames.
 #[derive(Drop)]
@@ -238,6 +239,16 @@ impl<S: Strip> Journal<S> {
         self.staged = framed(payload)?;
         self.phase = Phase::Staged;
         Ok(())
+    }
+
+    /// The memory of the frame that was settled last, emptied: the next payload, gathered there, needs
+    /// none of its own.
+    pub fn take_room(&mut self, alloc: Global) -> Vec<u8>
+        requires { has_staged self.old ≡ false }
+        ensures empty { result.items ≡ [] }
+        ensures same { self.new ≡ self.old }
+    {
+        mem::replace(&mut self.staged, Vec::new(alloc))
     }
 
     /// Makes the staged frame stand, once, by at most four device calls, and takes no memory of its

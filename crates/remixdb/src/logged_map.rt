@@ -1,4 +1,4 @@
-ghost use Rattle.std.specs.Prelude.{◌≡◌, ◌<◌, ◌≤◌, ◌+◌, ◌^◌, ◌++◌, ℕ, true, false, [], length, vec_capacity, Some, OnOk, OnErr, IfOk, IfErr};
+ghost use Rattle.std.specs.Prelude.{◌≡◌, ◌<◌, ◌≤◌, ◌+◌, ◌^◌, ◌++◌, ℕ, true, false, [], length, Some, OnOk, OnErr, IfOk, IfErr};
 ghost use Rattle.rdb_base.specs.Maps.{changed};
 ghost use Rattle.rdb_base.specs.declared.change.Change.TheVariants as changes;
 ghost use Rattle.wire_protocol.specs.Grammar.{spell_request as request_bytes};
@@ -23,7 +23,7 @@ use wire_protocol::{MESSAGE_MAX, spell_request};
 /// So many kept bytes are settled before another update is entered.
 pub const KEPT_MAX: usize = 262_144;
 
-/// Room for what is kept: less than `KEPT_MAX`, and one message more.
+/// The most bytes that are kept: less than `KEPT_MAX`, and one message more.
 const KEPT_ROOM: usize = KEPT_MAX + MESSAGE_MAX;
 
 /// An ordered map whose updates are kept, as they are spelled, until a journal has them.
@@ -34,7 +34,6 @@ pub struct LoggedMap<S: Strip> {
     pub(crate) kept: Vec<u8>,
     pub(crate) journal: Journal<S>,
     ghost few: { length kept.items ≤ KEPT_ROOM },
-    ghost room: { KEPT_ROOM ≤ vec_capacity kept },
     ghost unready: { is_ready journal ≡ false → journal.end ≡ 0 },
     // Its strip is the first of a store's log.
     ghost first_strip: { (S.book journal.strip).device ≡ 0 },
@@ -80,12 +79,12 @@ impl<S: Strip> LoggedMap<S> {
         ensures kept { OnOk result (self.new.kept.items ≡ []) }
         ensures map { self.new.map ≡ self.old.map }
     {
-        let room = Vec::with_capacity(alloc, KEPT_ROOM)?;
+        let room = self.journal.take_room(alloc);
         let payload = mem::replace(&mut self.kept, room);
         match self.journal.stage(alloc, payload) {
             Ok(()) => Ok(()),
             Err((payload, error)) => {
-                self.kept.extend_from_slice(&payload).unwrap();
+                self.kept = payload;
                 Err(error)
             }
         }
@@ -126,13 +125,10 @@ impl<S: Strip> LoggedMap<S> {
         ensures back { IfErr result (λ refused. IsSameStrip S.Strip strip refused.0 × KeepsBytes S.Strip strip refused.0) }
         ensures cause { IfErr result (λ refused. OpeningCause (S.book strip) (S.count strip) (S.count refused.0) refused.1) }
     {
-        let Ok(kept) = Vec::with_capacity(alloc, KEPT_ROOM) else {
-            return Err((strip, JournalError::Memory));
-        };
         match Journal::open(alloc, strip) {
             Ok((journal, _)) => Ok(LoggedMap {
                 map: OrderedMap::new(alloc),
-                kept,
+                kept: Vec::new(alloc),
                 journal,
             }),
             Err(refused) => Err(refused),
@@ -165,7 +161,8 @@ impl<S: Strip> LoggedMap<S> {
         let request = Request::Put {
             row: Row { key, value },
         };
-        // There is room for every message.
+        // Then there is room for any message.
+        self.kept.reserve(KEPT_ROOM - before)?;
         spell_request(&request, &mut self.kept).unwrap();
         let row = match request {
             Request::Put { row } => row,

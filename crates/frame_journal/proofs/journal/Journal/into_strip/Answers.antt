@@ -1,4 +1,4 @@
-use Rattle.std.proofs.Common.{ap, sym, subst, ◌∙◌}
+use Rattle.std.proofs.Common.{ap, subst, ◌∙◌}
 use Rattle.frame_journal.specs.Frames.{StandsFor}
 use Rattle.frame_journal.specs.JournalState.{JournalState, is_ready, has_staged}
 use Rattle.frame_journal.specs.Journals.{standing}
