@@ -2,9 +2,11 @@
 //!
 //! It answers each input as `remixdb script mem` does, and proves nothing. It has a buffer on each
 //! stream, writes a value to the buffer straight from the map, and flushes where the next message
-//! is not yet in the buffer.
+//! is not yet in the buffer. With the word `log` it also keeps each put's message in memory, as
+//! RemixDB's log does.
 
 use std::collections::BTreeMap;
+use std::env;
 use std::fs::File;
 use std::io::{self, BufRead, BufReader, BufWriter, Read, Write};
 use std::os::fd::AsFd;
@@ -78,11 +80,12 @@ impl<'a> Fields<'a> {
     }
 }
 
-/// The map with the number of its updates.
+/// The map with the number of its updates, and their messages where they are kept.
 #[derive(Default)]
 struct Store {
     rows: BTreeMap<Vec<u8>, Vec<u8>>,
     updates: u64,
+    log: Option<Vec<u8>>,
 }
 
 impl Store {
@@ -94,6 +97,10 @@ impl Store {
                 let key = fields.key()?;
                 let value = fields.value()?;
                 fields.finish()?;
+                if let Some(log) = &mut self.log {
+                    log.extend_from_slice(&(body.len() as u32).to_be_bytes());
+                    log.extend_from_slice(body);
+                }
                 self.rows.insert(key.to_vec(), value.to_vec());
                 write_head(output, DONE, 0, self.updates)?;
                 self.updates += 1;
@@ -164,7 +171,11 @@ fn serve<R: Read, W: Write>(
     output: &mut W,
     place: &mut u64,
 ) -> Result<(), End> {
-    let mut store = Store::default();
+    let keeps_log = env::args().nth(1).is_some_and(|word| word == "log");
+    let mut store = Store {
+        log: keeps_log.then(Vec::new),
+        ..Store::default()
+    };
     let mut body = vec![0; BODY_MAX];
     loop {
         if !holds_message(input.buffer()) {

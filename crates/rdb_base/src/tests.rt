@@ -68,6 +68,14 @@ fn keys_are_ordered_by_unsigned_bytes(rt: HostRuntime) -> Result<(), Fail> {
         (b"\xFF", b"\x00\x00", Ordering::Greater),
         (b"a\x00", b"a", Ordering::Greater),
         (b"ab", b"ab", Ordering::Equal),
+        (b"12345678", b"123456789", Ordering::Less),
+        (b"\x00234567\xFF", b"\xFF234567\x00", Ordering::Less),
+        (
+            b"12345678901234567890\x80",
+            b"12345678901234567890\x7F",
+            Ordering::Greater,
+        ),
+        (b"1234567812345678", b"1234567812345678", Ordering::Equal),
     ] {
         let left = Key::try_new(alloc, left)?;
         let right = Key::try_new(alloc, right)?;
