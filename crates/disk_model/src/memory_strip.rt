@@ -168,7 +168,7 @@ impl MemoryStrip {
 }
 
 impl Strip for MemoryStrip {
-    ghost use Rattle.std.specs.Prelude.{◌+◌, ◌<◌, ◌^◌, ◌≤◌, true, min, take, drop, OnErr, IfErr};
+    ghost use Rattle.std.specs.Prelude.{◌+◌, ◌<◌, ◌^◌, ◌≤◌, true, take, OnErr};
     ghost use Rattle.disk_model.specs.Causes.{HasCause};
     ghost use Rattle.disk_model.specs.Strips.{Holds, Fills, Torn, Cut, Follows, Narrows, Only};
     ghost use Rattle.disk_model.specs.MemoryState.{content_of, MayLeave, LeftSince, Passes, FailsAsListed, Does};

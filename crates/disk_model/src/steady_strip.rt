@@ -14,7 +14,6 @@ pub struct SteadyStrip {
 }
 
 impl Model for SteadyStrip {
-    ghost use Rattle.disk_model.specs.Books.{BookName};
     ghost use Rattle.disk_model.specs.SteadyState.{SteadyState};
 
     ghost Value = { SteadyState };

@@ -1,14 +1,14 @@
 //! The journal: what it promises before and after each call.
-ghost use Rattle.std.specs.Prelude.{◌≡◌, ◌+◌, ◌<◌, ◌≤◌, ◌↔◌, ◌^◌, ℕ, true, false, nat_lt, [], ◌∷◌, ◌++◌, length, take, IsTrue, is_ok, is_err, Ok, IfOk, OnOk, OnErr, IfErr, if◌then◌else◌};
+ghost use Rattle.std.specs.Prelude.{◌≡◌, ◌+◌, ◌<◌, ◌≤◌, ◌^◌, true, false, nat_lt, [], ◌∷◌, length, is_ok, is_err, Ok, IfOk, OnOk, OnErr, IfErr};
 ghost use Rattle.frame_journal.specs.Devices.{SameStrip, CauseIn, OfBytes, KeepsBytes, IsSynced};
 ghost use Rattle.frame_journal.specs.Frames.{StandsFor, HasNoTorn, frame_size, end_of};
 ghost use Rattle.frame_journal.specs.JournalState.{is_ready, has_staged, is_in_doubt, is_written, closes_gate, staged_frame};
-ghost use Rattle.frame_journal.specs.Journals.{standing, with_staged, HasStanding, covered, at_stake, HasAtStake, IsEmptied, StandsForNoneOr, StandsWithOrWithout};
+ghost use Rattle.frame_journal.specs.Journals.{standing, with_staged, HasStanding, at_stake, HasAtStake, IsEmptied, StandsForNoneOr, StandsWithOrWithout};
 ghost use Rattle.frame_journal.specs.Causes.{OpeningCause};
 ghost use Rattle.frame_journal.specs.Openings.{TellsTorn, strip_of};
 ghost use Rattle.frame_journal.specs.declared.phase.Phase.TheVariants.{Fresh, Shut, Ready, Staged, Body, Gate};
 
-use crate::format::{CLOSED_GATE, END_MAX, FRAMING, OPEN_GATE, PAYLOAD_MAX};
+use crate::format::{CLOSED_GATE, END_MAX, FRAMING, PAYLOAD_MAX};
 use crate::framing::framed;
 use crate::opening::{Found, found_on};
 use crate::phase::Phase;
@@ -21,11 +21,11 @@ use std::mem;
 /// A strip that stands for a list of frames.
 #[derive(Drop)]
 pub struct Journal<S: Strip> {
-    strip: S,
-    phase: Phase,
+    pub(crate) strip: S,
+    pub(crate) phase: Phase,
     // The place of the next gate, and what is to be written behind it.
-    end: u64,
-    staged: Vec<u8>,
+    pub(crate) end: u64,
+    pub(crate) staged: Vec<u8>,
 }
 
 impl<S: Strip> Model for Journal<S> {
@@ -149,73 +149,6 @@ impl<S: Strip> Journal<S> {
         self.cut_behind_gate(alloc)
     }
 
-    // From here on the journal is not ready.
-    fn begin_clear(&mut self)
-        requires { has_staged self.old ≡ false }
-        ensures strip { self.new.strip ≡ self.old.strip }
-        ensures phase { self.new.phase ≡ (if closes_gate self.old then Fresh else Shut) }
-        ensures end { self.new.end ≡ 0 }
-        ensures payload { self.new.payload ≡ [] }
-        ensures own { is_ready self.old ≡ true →
-            HasAtStake S.Strip self.old (standing S.Strip self.old) }
-    {
-        if let Phase::Ready = self.phase {
-            // With no frame, the gate at place 0 is closed and synced: a write there could open an
-            // old frame again.
-            self.phase = if self.end == 0 {
-                Phase::Shut
-            } else {
-                Phase::Fresh
-            };
-            self.end = 0;
-        }
-    }
-
-    // The first phase of a clear: no frame stands behind a closed gate.
-    fn close_first_gate(&mut self, alloc: Global) -> Result<(), DeviceError>
-        requires { self.old.phase ≡ Fresh }
-
-        ensures closed { OnOk result (self.new.phase ≡ Shut) }
-        ensures gate { OnOk result
-            (OfBytes S.Strip self.new.strip (λ bytes. take 1 bytes ≡ CLOSED_GATE ∷ [])) }
-        ensures again { OnErr result (self.new.phase ≡ Fresh) }
-        ensures same { OnErr result
-            (OfBytes S.Strip self.new.strip (λ bytes. covered bytes ≡ covered (S.content self.old.strip))) }
-        ensures end { self.new.end ≡ 0 }
-        ensures either { OfBytes S.Strip self.new.strip
-            (StandsForNoneOr (covered (S.content self.old.strip))) }
-
-        ensures strip { SameStrip S.Strip 2 self.old.strip self.new.strip }
-        ensures cause { CauseIn S.Strip self.old.strip self.new.strip result }
-    {
-        self.strip.write_at(alloc, 0, &[CLOSED_GATE])?;
-        self.strip.sync(alloc)?;
-        self.phase = Phase::Shut;
-        Ok(())
-    }
-
-    // The second phase of a clear: what is behind the closed gate is gone.
-    fn cut_behind_gate(&mut self, alloc: Global) -> Result<(), DeviceError>
-        requires { self.old.phase ≡ Shut }
-
-        ensures ready { OnOk result (self.new.phase ≡ Ready) }
-        ensures again { OnErr result (self.new.phase ≡ Shut) }
-        ensures end { self.new.end ≡ 0 }
-        ensures emptied { OnOk result (OfBytes S.Strip self.new.strip IsEmptied) }
-        ensures cut { OnOk result
-            (OfBytes S.Strip self.new.strip (λ bytes. bytes ≡ take 1 (S.content self.old.strip))) }
-        ensures synced { OnOk result (IsSynced S.Strip self.new.strip) }
-        ensures none { OfBytes S.Strip self.new.strip (StandsFor []) }
-
-        ensures strip { SameStrip S.Strip 2 self.old.strip self.new.strip }
-        ensures cause { CauseIn S.Strip self.old.strip self.new.strip result }
-    {
-        self.strip.cut(alloc, 1)?;
-        self.strip.sync(alloc)?;
-        self.phase = Phase::Ready;
-        Ok(())
-    }
-
     /// Stages a frame with this payload. It makes room for the length and the next gate in the
     /// payload's own memory, and no device call. Where the journal's end would pass 2^63, the answer
     /// is want of memory, too.
@@ -292,53 +225,6 @@ impl<S: Strip> Journal<S> {
             }
             Phase::Gate => self.open_gate(alloc),
         }
-    }
-
-    // The first phase of a settle: the frame is there but for its gate.
-    fn write_body(&mut self, alloc: Global) -> Result<(), DeviceError>
-        requires staged { has_staged self.old ≡ true }
-        requires unwritten { is_written self.old ≡ false }
-
-        ensures written { OnOk result (self.new.phase ≡ Gate) }
-        ensures again { OnErr result (self.new.phase ≡ Body) }
-        ensures kept { staged_frame self.new ≡ staged_frame self.old }
-        ensures before { HasStanding S.Strip self.new (standing S.Strip self.old) }
-        ensures stands { OfBytes S.Strip self.new.strip (StandsFor (standing S.Strip self.old)) }
-
-        ensures strip { SameStrip S.Strip 2 self.old.strip self.new.strip }
-        ensures cause { CauseIn S.Strip self.old.strip self.new.strip result }
-    {
-        self.phase = Phase::Body;
-        self.strip.write_at(alloc, self.end + 1, &self.staged)?;
-        self.strip.sync(alloc)?;
-        self.phase = Phase::Gate;
-        Ok(())
-    }
-
-    // The second phase of a settle: the frame stands.
-    fn open_gate(&mut self, alloc: Global) -> Result<(), DeviceError>
-        requires { self.old.phase ≡ Gate }
-
-        ensures settled { OnOk result
-            (OfBytes S.Strip self.new.strip (StandsFor (with_staged S.Strip self.old))) }
-        ensures standing { OnOk result (HasStanding S.Strip self.new (with_staged S.Strip self.old)) }
-        ensures synced { OnOk result (IsSynced S.Strip self.new.strip) }
-        ensures ready { OnOk result (self.new.phase ≡ Ready) }
-        ensures end { OnOk result (self.new.end ≡ self.old.end + frame_size (staged_frame self.old)) }
-        ensures again { OnErr result (self.new.phase ≡ Gate) }
-        ensures kept { OnErr result (staged_frame self.new ≡ staged_frame self.old) }
-        ensures before { OnErr result (HasStanding S.Strip self.new (standing S.Strip self.old)) }
-        ensures either { OfBytes S.Strip self.new.strip (StandsWithOrWithout S.Strip self.old) }
-
-        ensures strip { SameStrip S.Strip 2 self.old.strip self.new.strip }
-        ensures cause { CauseIn S.Strip self.old.strip self.new.strip result }
-    {
-        self.strip.write_at(alloc, self.end, &[OPEN_GATE])?;
-        self.strip.sync(alloc)?;
-        self.end += self.staged.len() as u64;
-        self.staged.clear();
-        self.phase = Phase::Ready;
-        Ok(())
     }
 
     /// The strip as it stands. Where the journal is ready and nothing is staged, it stands for the journal's frames.

@@ -11,6 +11,7 @@
 //! Bytes        `src/format.rt`
 #![tactic(auto)]
 
+mod clearing;
 mod format;
 mod frame;
 mod framing;
@@ -19,6 +20,7 @@ mod journal_error;
 mod opening;
 mod phase;
 mod scan;
+mod settling;
 
 pub use format::{CLOSED_GATE, OPEN_GATE, PAYLOAD_MAX};
 pub use frame::Frame;

@@ -1,5 +1,5 @@
 //! Bytes that were read before they were asked for.
-ghost use Rattle.std.specs.Prelude.{◌≡◌, ◌==◌, [], min, take, drop, length, Ok, Err, OnOk, OnErr, IfOk};
+ghost use Rattle.std.specs.Prelude.{◌≡◌, ◌==◌, [], min, take, drop, length, Ok, OnOk, OnErr, IfOk};
 ghost use Rattle.std.specs.Io.KnownBytes.{Consumes, IsAtEnd, Keeps};
 
 use crate::failed::Failed;

@@ -1,5 +1,5 @@
 //! A sink in memory, some of whose calls fail on purpose.
-ghost use Rattle.std.specs.Prelude.{◌≡◌, ◌≤◌, [], length, Some, Ok, Err, IfOk, OnOk, OnErr};
+ghost use Rattle.std.specs.Prelude.{◌≡◌, ◌≤◌, [], length, Some, Ok, Err, IfOk};
 ghost use Rattle.link_model.specs.Calls.{PutAnswer};
 ghost use Rattle.link_model.specs.Faults.{HasCause};
 ghost use Rattle.link_model.specs.Streams.{PutsFront};

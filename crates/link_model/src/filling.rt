@@ -1,5 +1,5 @@
 //! How bytes go from one piece of memory to another, as many as both have room for.
-ghost use Rattle.std.specs.Prelude.{◌≡◌, ◌++◌, min, take, drop, length};
+ghost use Rattle.std.specs.Prelude.{◌≡◌, min, take, drop, length};
 
 /// Copies as many bytes as both have, from front to front, and answers how many.
 pub(crate) fn copy_front(from: &[u8], into: &mut [u8]) -> usize

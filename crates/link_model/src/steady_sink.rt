@@ -1,5 +1,5 @@
 //! A sink in memory that fails only where its room is passed.
-ghost use Rattle.std.specs.Prelude.{◌≡◌, ◌≤◌, [], length, Some, Ok, Err, IfOk, OnOk, OnErr};
+ghost use Rattle.std.specs.Prelude.{◌≡◌, ◌≤◌, [], length, Some, Ok, Err, IfOk};
 ghost use Rattle.link_model.specs.Calls.{SteadyPutAnswer};
 ghost use Rattle.link_model.specs.Faults.{HasCause};
 ghost use Rattle.link_model.specs.Streams.{PutsFront};

@@ -1,5 +1,5 @@
 //! A source in memory that never fails.
-ghost use Rattle.std.specs.Prelude.{◌≡◌, ◌<◌, min, Some, Ok, OnErr, IfOk, drop, length};
+ghost use Rattle.std.specs.Prelude.{◌≡◌, ◌<◌, min, Some, Ok, IfOk, drop, length};
 ghost use Rattle.link_model.specs.Faults.{HasCause};
 ghost use Rattle.link_model.specs.Streams.{TakesFront};
 

@@ -1,6 +1,6 @@
 //! Each public call once: faults on purpose, a room that is passed, and a wire whose calls are
 //! counted.
-ghost use Rattle.std.specs.Prelude.{◌≤◌, take, length};
+ghost use Rattle.std.specs.Prelude.{take};
 
 use crate::{ByteSink, ByteSource, Failed, Sink, Source, SteadySink, SteadySource, joined};
 use std::alloc::Global;

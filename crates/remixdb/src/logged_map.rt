@@ -1,9 +1,9 @@
-ghost use Rattle.std.specs.Prelude.{◌≡◌, ◌<◌, ◌≤◌, ◌+◌, ◌^◌, ◌++◌, ℕ, true, false, [], length, Some, OnOk, OnErr, IfOk, IfErr};
+ghost use Rattle.std.specs.Prelude.{◌≡◌, ◌<◌, ◌≤◌, ◌+◌, ◌^◌, ◌++◌, true, false, [], length, Some, Ok, OnOk, OnErr, IfOk, IfErr};
 ghost use Rattle.rdb_base.specs.Maps.{changed};
 ghost use Rattle.rdb_base.specs.declared.change.Change.TheVariants as changes;
 ghost use Rattle.wire_protocol.specs.Grammar.{spell_request as request_bytes};
 ghost use Rattle.session_core.specs.Machines.{put_request};
-ghost use Rattle.frame_journal.specs.JournalState.{is_ready, has_staged};
+ghost use Rattle.frame_journal.specs.JournalState.{is_ready, has_staged, is_in_doubt};
 ghost use Rattle.frame_journal.specs.Devices.{CauseIn, OfBytes, KeepsBytes};
 ghost use Rattle.frame_journal.specs.Causes.{OpeningCause};
 ghost use Rattle.frame_journal.specs.Openings.{TellsTorn};
@@ -55,6 +55,7 @@ impl<S: Strip> LoggedMap<S> {
     /// Clears the strip, where it had no frame and no clear answered Ok since.
     pub(crate) fn make_ready(&mut self, alloc: Global) -> Result<(), DeviceError>
         requires { has_staged self.old.journal ≡ false }
+        ensures nothing { is_ready self.old.journal ≡ true → (result ≡ Ok tt) × (self.new ≡ self.old) }
         ensures log { KeepsLog S.Strip self.old.journal self.new.journal self.old.kept.items self.new.kept.items }
         ensures ready { OnOk result (is_ready self.new.journal ≡ true) }
         ensures idle { has_staged self.new.journal ≡ false }
@@ -138,6 +139,10 @@ impl<S: Strip> LoggedMap<S> {
     /// Settles what is kept, where a frame is in doubt or enough is kept.
     pub(crate) fn make_room(&mut self, alloc: Global) -> Result<(), DeviceError>
         ensures log { KeepsLog S.Strip self.old.journal self.new.journal self.old.kept.items self.new.kept.items }
+        ensures nothing { is_in_doubt self.old.journal ≡ false → length self.old.kept.items < KEPT_MAX →
+            (result ≡ Ok tt) × (self.new ≡ self.old) }
+        ensures enough { OnOk result (KEPT_MAX ≤ length self.old.kept.items → self.new.kept.items ≡ []) }
+        ensures doubt { OnOk result (is_in_doubt self.new.journal ≡ false) }
         ensures room { OnOk result (length self.new.kept.items < KEPT_MAX) }
         ensures map { self.new.map ≡ self.old.map }
         ensures cause { CauseIn S.Strip self.old.journal.strip self.new.journal.strip result }

@@ -13,13 +13,13 @@
 
 mod command;
 mod host;
-mod lending;
 mod log_answers;
 mod logged_map;
 mod memory_host;
 mod ordered_map;
 mod outcome;
 mod script;
+mod stream_lending;
 mod strip_lending;
 mod system_host;
 #[cfg(test)]

@@ -1,11 +1,10 @@
 ghost use Rattle.std.specs.Prelude.{◌≡◌, [], Some, None};
 ghost use Rattle.std.specs.Option.{option_copied};
 ghost use Rattle.remixdb.specs.Lent.{lent_of, lent_strip_of, bytes_at_home};
-ghost use Rattle.disk_model.specs.MemoryState.{content_of};
 ghost use Rattle.remixdb.specs.Told.{told_input, told_output};
 
 use crate::host::Host;
-use crate::lending::Lending;
+use crate::stream_lending::StreamLending;
 use crate::strip_lending::StripLending;
 use disk_model::{MemoryStrip, Strip};
 use link_model::{ByteSink, ByteSource};
@@ -15,7 +14,7 @@ use std::alloc::Global;
 #[derive(Drop)]
 pub struct MemoryHost {
     strip: StripLending<MemoryStrip>,
-    streams: Lending<ByteSource, ByteSink>,
+    streams: StreamLending<ByteSource, ByteSink>,
     notes: Vec<u8>,
 }
 
@@ -32,7 +31,7 @@ impl MemoryHost {
         let sink_faults = sink.faults();
         MemoryHost {
             strip: StripLending::new(strip, strip_faults),
-            streams: Lending::new(source, sink, source_faults, sink_faults),
+            streams: StreamLending::new(source, sink, source_faults, sink_faults),
             notes: Vec::new(alloc),
         }
     }

@@ -1,4 +1,4 @@
-ghost use Rattle.std.specs.Prelude.{◌≡◌, ◌≤◌, ◌<◌, ◌^◌, ℕ, None, Some};
+ghost use Rattle.std.specs.Prelude.{◌≡◌, ◌≤◌, ◌<◌, ◌^◌, None, Some};
 ghost use Rattle.std.specs.Option.{ForSome};
 ghost use Rattle.remixdb.specs.Lent.{lent_strip_of, IsStripLent, risen_with};
 

@@ -2,7 +2,7 @@ ghost use Rattle.std.specs.Prelude.{◌≡◌, None, IfOk};
 ghost use Rattle.remixdb.specs.Lent.{lent_of, lent_strip_of, bytes_at_home};
 
 use crate::host::Host;
-use crate::lending::Lending;
+use crate::stream_lending::StreamLending;
 use crate::strip_lending::StripLending;
 use disk_model::{SteadyStrip, Strip};
 use link_model::{ReaderSource, WriterSink, joined};
@@ -15,7 +15,7 @@ use std::io::{Stderr, Stdin, Stdout, Write};
 #[derive(Drop)]
 pub struct SystemHost {
     strip: StripLending<SteadyStrip>,
-    streams: Lending<ReaderSource<Stdin, Stdout>, WriterSink<Stdout>>,
+    streams: StreamLending<ReaderSource<Stdin, Stdout>, WriterSink<Stdout>>,
     notes: Stderr,
 }
 
@@ -33,7 +33,7 @@ impl SystemHost {
         let (source, sink) = joined(alloc, stdin, stdout)?;
         Ok(SystemHost {
             strip: StripLending::new(SteadyStrip::new(alloc, 0), 0),
-            streams: Lending::new(source, sink, 0, 0),
+            streams: StreamLending::new(source, sink, 0, 0),
             notes: stderr,
         })
     }

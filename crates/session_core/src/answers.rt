@@ -1,4 +1,4 @@
-ghost use Rattle.std.specs.Prelude.{◌≡◌, ℕ, ◌<◌, ◌^◌};
+ghost use Rattle.std.specs.Prelude.{ℕ, ◌<◌, ◌^◌};
 ghost use Rattle.disk_model.specs.Books.{BookName};
 ghost use Rattle.session_core.specs.Machines.{MapState};
 ghost use Rattle.session_core.specs.Answering.{PutAnswer, PutCause, GetAnswer, SameCounts};

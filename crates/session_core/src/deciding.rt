@@ -1,5 +1,5 @@
 //! What a whole message comes to: a reply, the session's end, or a refusal.
-ghost use Rattle.std.specs.Prelude.{◌≡◌, ◌+◌, ◌<◌, ◌≤◌, ◌^◌, ℕ};
+ghost use Rattle.std.specs.Prelude.{◌≡◌, ◌<◌, ◌^◌};
 ghost use Rattle.history_core.specs.declared.request.Request.TheVariants as asks;
 ghost use Rattle.wire_protocol.specs.Messages.{wanted};
 ghost use Rattle.session_core.specs.Telling.{Answered, AreOf, AreAtMost};

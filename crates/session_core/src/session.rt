@@ -1,5 +1,5 @@
 //! A session from its first byte to its end.
-ghost use Rattle.std.specs.Prelude.{◌≡◌, ◌≢◌, ◌+◌, ◌≤◌, ◌<◌, ◌^◌, [], ℕ, vec_capacity, Some, None};
+ghost use Rattle.std.specs.Prelude.{◌≡◌, ◌≢◌, ◌+◌, ◌≤◌, ◌<◌, [], vec_capacity, Some, None};
 ghost use Rattle.wire_protocol.specs.declared.limits.TheConstants.{REPLY_MAX};
 ghost use Rattle.wire_protocol.specs.Grammar.{spell_reply as reply_bytes};
 ghost use Rattle.link_model.specs.Faults.{Rose, HasCause};

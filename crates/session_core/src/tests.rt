@@ -1,5 +1,4 @@
 //! Whole sessions over a store of one row: their bytes, their ends, and what their faults leave.
-ghost use Rattle.std.specs.Prelude.{◌≡◌};
 
 mod dripping;
 mod one_row;

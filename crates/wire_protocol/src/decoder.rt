@@ -1,4 +1,4 @@
-ghost use Rattle.std.specs.Prelude.{◌≡◌, ◌+◌, ◌≤◌, ◌<◌, ◌^◌, ◌++◌, ◌⊎◌, [], ℕ, List, length, take, drop, IfOk, OnErr, Ok, Some, None};
+ghost use Rattle.std.specs.Prelude.{◌≡◌, ◌+◌, ◌≤◌, ◌<◌, ◌^◌, ◌++◌, [], length, take, IfOk, Ok, Some, None};
 ghost use Rattle.wire_protocol.specs.Messages.{wanted, body_length, IsWithin};
 ghost use Rattle.wire_protocol.specs.Answer.{MessageAnswer, DecoderAnswer};
 

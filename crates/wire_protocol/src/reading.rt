@@ -1,6 +1,6 @@
-ghost use Rattle.std.specs.Prelude.{◌≡◌, List, [], ◌∷◌, length, IfOk, IsOk, IsErrOf, Ok};
+ghost use Rattle.std.specs.Prelude.{◌≡◌, [], ◌∷◌, IfOk, IsOk, IsErrOf, Ok};
 ghost use Rattle.std.specs.Int.{w16, w32};
-ghost use Rattle.wire_protocol.specs.Reading.{Gives, GivesField, SpellsRequest, number_at, bytes_at, key_at, value_at, ended, put_at, get_at, request_at};
+ghost use Rattle.wire_protocol.specs.Reading.{Gives, GivesField, SpellsRequest, number_at, bytes_at, key_at, value_at, put_at, get_at, request_at};
 ghost use Rattle.wire_protocol.specs.Grammar.{request_body, IsRequest};
 
 use crate::body_error::BodyError;

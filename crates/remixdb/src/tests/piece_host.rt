@@ -1,5 +1,5 @@
 //! A host in memory whose source gives few bytes at a time.
-ghost use Rattle.std.specs.Prelude.{◌≡◌, ◌<◌};
+ghost use Rattle.std.specs.Prelude.{◌<◌};
 
 use crate::host::Host;
 use crate::memory_host::MemoryHost;

@@ -1,7 +1,5 @@
 //! A source that gives one byte at a time.
-ghost use Rattle.std.specs.Prelude.{◌≡◌, ◌<◌, Some, length};
-ghost use Rattle.link_model.specs.Faults.{HasCause};
-ghost use Rattle.link_model.specs.Streams.{TakesFront};
+ghost use Rattle.std.specs.Prelude.{◌<◌, Some};
 
 use link_model::{Failed, Source, SteadySource};
 

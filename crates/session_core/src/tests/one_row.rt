@@ -1,6 +1,5 @@
 //! A store with room for one row.
-ghost use Rattle.std.specs.Prelude.{◌≡◌, ◌<◌, ◌^◌, [], ◌∷◌, ◌==◌, if◌then◌else◌, unwrap_or, option_map, None};
-ghost use Rattle.session_core.specs.Answering.{PutAnswer, PutCause, GetAnswer, SameCounts};
+ghost use Rattle.std.specs.Prelude.{◌≡◌, ◌<◌, [], ◌∷◌, ◌==◌, if◌then◌else◌, unwrap_or, option_map, None};
 
 use crate::{Answers, Found, UpdateError};
 use disk_model::{DeviceError, FaultBook};

@@ -1,4 +1,4 @@
-ghost use Rattle.std.specs.Prelude.{◌≡◌, ◌≤◌, ◌<◌, ◌^◌, ℕ, None, Some};
+ghost use Rattle.std.specs.Prelude.{◌≡◌, ◌≤◌, ◌<◌, ◌^◌, None, Some};
 ghost use Rattle.std.specs.Option.{ForSome};
 ghost use Rattle.remixdb.specs.Lent.{lent_of, IsLent, risen_by};
 
@@ -6,7 +6,7 @@ use link_model::{Sink, Source};
 
 /// A pair of streams that is handed out and taken back, and how often they failed while they were out.
 #[derive(Drop)]
-pub struct Lending<S: Source + Drop, K: Sink + Drop> {
+pub struct StreamLending<S: Source + Drop, K: Sink + Drop> {
     pub(crate) pair: Option<(S, K)>,
     /// The streams' own counts, when they were handed out or taken back last.
     pub(crate) source_faults: u64,
@@ -20,14 +20,19 @@ pub struct Lending<S: Source + Drop, K: Sink + Drop> {
     ghost fits: { faults < 2 ^ 64 },
 }
 
-impl<S: Source + Drop, K: Sink + Drop> Lending<S, K> {
+impl<S: Source + Drop, K: Sink + Drop> StreamLending<S, K> {
     /// Streams that are at home, with their own counts of faults.
-    pub(crate) fn new(source: S, sink: K, source_faults: u64, sink_faults: u64) -> Lending<S, K>
+    pub(crate) fn new(
+        source: S,
+        sink: K,
+        source_faults: u64,
+        sink_faults: u64,
+    ) -> StreamLending<S, K>
         requires source { S.faults source ≡ source_faults }
         requires sink { K.faults sink ≡ sink_faults }
         ensures home { result.pair ≡ Some (source, sink) }
     {
-        Lending {
+        StreamLending {
             pair: Some((source, sink)),
             source_faults,
             sink_faults,
