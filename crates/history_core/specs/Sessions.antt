@@ -66,10 +66,3 @@ pub record IsSession (rows : List Row) (number : ℕ) (requests : List Request) 
   pub numbered : AreNumbered 0 entries
   pub all : last.ordinal ≡ length entries
   pub replays : ReplaysAll (record { base = rows; first = number; entries = entries }) (begun number) requests replies last
-
--- up to the first QUIT, with it
-abbrev pub until_quit : List Request → List Request
-until_quit [] = []
-until_quit (Put row ∷ requests) = Put row ∷ until_quit requests
-until_quit (Get key ∷ requests) = Get key ∷ until_quit requests
-until_quit (Quit ∷ requests) = Quit ∷ []

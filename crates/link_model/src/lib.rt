@@ -7,7 +7,8 @@
 //! Goes in      pieces of bytes; in memory, the bytes, a room, and the calls that are to fail
 //! Comes out    the bytes; `Failed`, with its count raised
 //! Stands on    nothing
-//! Leaves open  that a call succeeds
+//! Used by      session_core, remixdb
+//! Leaves open  that a call succeeds; what a system's streams hold
 #![tactic(auto)]
 
 mod ahead;

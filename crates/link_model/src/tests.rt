@@ -67,7 +67,7 @@ struct Wire {
     is_cut: bool,
 }
 
-/// Reads the pieces from the last to the first. Each read is interrupted once before it.
+/// Reads the pieces from the last to the first. Each read, and so each write, is interrupted once before it.
 #[derive(Drop)]
 struct WireReader {
     wire: Rc<RefCell<Wire>>,
@@ -77,6 +77,7 @@ struct WireReader {
 #[derive(Drop)]
 struct WireWriter {
     wire: Rc<RefCell<Wire>>,
+    is_interrupted: bool,
 }
 
 impl Read for WireReader {
@@ -98,6 +99,10 @@ impl Read for WireReader {
 
 impl Write for WireWriter {
     fn write(&mut self, bytes: &[u8]) -> io::Result<usize> {
+        self.is_interrupted = !self.is_interrupted;
+        if self.is_interrupted {
+            return Err(io::Error::from(ErrorKind::Interrupted));
+        }
         let Ok(mut wire) = self.wire.try_borrow_mut() else {
             return Err(io::Error::from(ErrorKind::Other));
         };
@@ -138,6 +143,7 @@ fn ends(wire: &Rc<RefCell<Wire>>) -> Result<(WireReader, WireWriter), Fail> {
     };
     let writer = WireWriter {
         wire: wire.clone()?,
+        is_interrupted: false,
     };
     Ok((reader, writer))
 }

@@ -13,7 +13,7 @@ use Rattle.rdb_base.specs.declared.entry.Entry.{Entry}
 abbrev pub EqualIsSame : Type 0
 EqualIsSame = (a b : List ℕ) → key_cmp a b ≡ Equal → a ≡ b
 
--- a key that has a value compares alike with itself
+-- a key compares alike with itself
 abbrev pub SameIsEqual : Type 0
 SameIsEqual = (a : List ℕ) → key_cmp a a ≡ Equal
 

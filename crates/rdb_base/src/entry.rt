@@ -5,7 +5,7 @@ use crate::change::Change;
 use crate::key::Key;
 use std::alloc::Global;
 
-/// One accepted update: whose it is, the how manyth of that caller's it is, and what it does at which key.
+/// One accepted update: whose it is, which of that caller's updates it is, and what it does at which key.
 #[derive(Debug, Drop, PartialEq, Eq)]
 pub struct Entry {
     pub caller: u32,

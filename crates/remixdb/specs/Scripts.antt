@@ -137,7 +137,7 @@ pub record ScriptEnds (status : ℕ) (b : ScriptBytes) : Type 0 where
   -- opening failed, or a session was served all the same
   pub faulted : status ≡ 4 → (IsSilent b × (b.new.strip ≡ b.old.strip)) ⊎ Served b (LogsIfAllTold b.old b.new)
   pub cut_short : status ≡ 5 → (s : EndsCutShort b) × WasSteady b.old b.new s.requests s.replies
-  -- memory was refused before the first byte, or behind the last reply
+  -- memory was refused before the first byte, or in opening's clear or behind the last reply
   pub short : status ≡ 6 → IsSilent b ⊎ Served b (λ requests replies. ⊤)
   -- a session begins only over a strip without a torn header
   pub whole : (status ≡ 0) ⊎ ((status ≡ 1) ⊎ (status ≡ 5)) → HasNone b.old.strip

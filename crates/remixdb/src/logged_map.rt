@@ -13,7 +13,7 @@ ghost use Rattle.remixdb.specs.declared.logged_map.TheConstants.{KEPT_ROOM};
 
 use crate::ordered_map::OrderedMap;
 use disk_model::{DeviceError, Strip};
-use frame_journal::{Journal, JournalError};
+use frame_journal::{FRAMING, Journal, JournalError};
 use history_core::Request;
 use rdb_base::{Key, NoMemory, Row, Value};
 use std::alloc::{AllocError, Global};
@@ -166,8 +166,8 @@ impl<S: Strip> LoggedMap<S> {
         let request = Request::Put {
             row: Row { key, value },
         };
-        // Then there is room for any message.
-        self.kept.reserve(KEPT_ROOM - before)?;
+        // Then there is room for any message, and for what its frame adds.
+        self.kept.reserve(KEPT_ROOM + FRAMING - before)?;
         spell_request(&request, &mut self.kept).unwrap();
         let row = match request {
             Request::Put { row } => row,

@@ -7,7 +7,7 @@
 //!              and code; a failure of a device is told with a unit of that device's book
 //! Goes in      a store that `Answers`, a source and a sink
 //! Comes out    how the session ended, how many replies were decided, and the units of failures
-//! Stands on    wire_protocol, link_model, disk_model
+//! Stands on    wire_protocol, history_core, rdb_base, link_model, disk_model
 //! Used by      remixdb
 //! Leaves open  that a source gives more bytes, that a sink takes them
 #![tactic(auto)]

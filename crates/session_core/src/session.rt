@@ -129,7 +129,7 @@ fn pass_on<W: Sink>(end: SessionEnd, sink: &mut W) -> SessionEnd
 
 /// Serves one session: takes requests, answers each, and puts the replies, until the session ends.
 ///
-/// A session takes all its memory before its first byte; after that want of memory is a reply.
+/// A session takes the memory of its own before its first byte; after that want of memory is a reply.
 pub fn run_session<A: Answers, R: Source, W: Sink>(
     alloc: Global,
     answers: &A,

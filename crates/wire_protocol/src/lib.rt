@@ -7,7 +7,7 @@
 //! Goes in      requests and replies to spell; pieces of bytes to read
 //! Comes out    bytes; requests, or a refusal with its place in the input
 //! Stands on    rdb_base, history_core
-//! Used by      session_core
+//! Used by      session_core, remixdb
 //! Leaves open  that memory is there
 //! Bytes        docs/formats.md, "Messages"
 #![tactic(auto)]
