@@ -1,4 +1,4 @@
--- What the status of a script says of the counts of faults. To know: `failed_rose`, `clean_kept`, `all_told`, `stream_ended`, `source_unclean`.
+-- What the status of a script says of the counts of faults. To know: `failed_rose`, `clean_kept`, `all_told`, `told_counted`, `stream_ended`, `source_unclean`.
 use Rattle.std.proofs.Common.{◌≡◌, ℕ, zero, suc, ◌+◌, ◌-◌, ◌^◌, ◌<◌, ◌≤◌, min, Bool, true, false, cond, List, [], ◌∷◌, ◌++◌, Option, Some, None, refl, sym, ap, ◌∙◌, arith, inl, inr, ◌⊎◌}
 use Rattle.std.specs.Prelude.{Result, Ok, Err, MatchOption}
 use Rattle.disk_model.specs.Books.{BookName, Rose}
@@ -146,6 +146,12 @@ all_told (Err device.Memory) last a b c d faults out told lent is within one two
 all_told (Err (device.Fault unit)) last a b c d faults out told lent is within one two three o all below short =
     let o' : out ≡ risen_with faults (Some a) d = o ∙ ap (λ (l : Option ℕ). risen_with faults l d) is in
     absurd (omega (arith, o', within, one, two, three.failed.1, three.later, all, below))
+
+-- each fault that was told is in the host's count
+pub told_counted : (a b c d faults out told : ℕ) (lent : Option ℕ) → lent ≡ Some a → a ≤ faults → a ≤ b → min (b + told) (2 ^ 64 - 1) ≤ c → c ≤ d → out ≡ risen_with faults lent d → min (faults + told) (2 ^ 64 - 1) ≤ out
+told_counted a b c d faults out told lent is within one two three o =
+    let o' : out ≡ risen_with faults (Some a) d = o ∙ ap (λ (l : Option ℕ). risen_with faults l d) is in
+    omega (arith, o', within, one, two, three)
 
 -- ---- the streams
 

@@ -1,6 +1,6 @@
 -- The log of a map through the calls of its journal. To know: `log_of-same`, `log_of-settled`, `log_of-opened`,
 -- `log_of-entered`, `log_of-closed`.
-use Rattle.std.proofs.Common.{◌≡◌, ℕ, Bool, true, false, List, [], ◌∷◌, ◌++◌, Option, Some, refl, sym, ap, ◌∙◌, append_assoc}
+use Rattle.std.proofs.Common.{◌≡◌, ℕ, Bool, true, false, List, [], ◌∷◌, ◌++◌, Option, Some, refl, sym, ap, subst, ◌∙◌, append_assoc}
 use Rattle.std.specs.Prelude.{IsTrue, Result, Ok, Err, OnOk, OnErr, is_err}
 use Rattle.std.specs.Io.KnownBytes.{append_known}
 use Rattle.std.proofs.lemmas.List.{append-nil}
@@ -8,7 +8,7 @@ use Rattle.disk_model.specs.declared.strip.Strip.{Ghosts}
 use Rattle.frame_journal.specs.FrameValue.{FrameValue}
 use Rattle.frame_journal.specs.Frames.{frames_of, StandsFor}
 use Rattle.frame_journal.specs.Devices.{OfBytes}
-use Rattle.frame_journal.specs.JournalState.{JournalState, has_staged, staged_frame}
+use Rattle.frame_journal.specs.JournalState.{JournalState, is_ready, has_staged, staged_frame}
 use Rattle.frame_journal.specs.Journals.{standing, with_staged, HasStanding}
 use Rattle.remixdb.specs.Logged.{joined, pending, log_bytes, log_of}
 
@@ -78,6 +78,15 @@ log_of-entered strip journal kept more = by_told (strip.tells journal.strip) ref
     by_told : (told : Bool) → strip.tells journal.strip ≡ told → log_of strip journal (kept ++ more) ≡ append_known (log_of strip journal kept) more
     by_told true e = rw e (ap (λ (t : List ℕ). Some t) (ap (λ (t : List ℕ). joined (standing strip journal) ++ t) (sym (append_assoc (pending journal) kept more)) ∙ sym (append_assoc (joined (standing strip journal)) (pending journal ++ kept) more)))
     by_told false e = rw e refl
+
+-- what stands for frames stands for its own
+pub stands_own : (frames : List FrameValue) (bytes : List ℕ) → StandsFor frames bytes → StandsFor (frames_of bytes) bytes
+stands_own frames bytes stands = subst (λ (fs : List FrameValue). StandsFor fs bytes) (sym stands.whole) stands
+
+-- where all is settled, the strip stands for its own frames
+pub stands_closed : {S X E : Type 0} (strip : Ghosts S) (s : S) (journal : JournalState S) (result : Result X E) → (is_ready journal ≡ true → has_staged journal ≡ false → OfBytes strip s (StandsFor (standing strip journal))) → OnOk result (is_ready journal ≡ true) → OnOk result (has_staged journal ≡ false) → OnOk result (OfBytes strip s (λ bytes. StandsFor (frames_of bytes) bytes))
+stands_closed strip s journal (Ok x) stands ready idle = λ told. stands_own (standing strip journal) (strip.content s) (stands ready idle told)
+stands_closed strip s journal (Err e) stands ready idle = tt
 
 -- where all is settled, the strip's payloads are the log
 pub log_of-closed : {S : Type 0} (strip : Ghosts S) (journal : JournalState S) (kept : List ℕ) (s : S) (log : Option (List ℕ)) → s ≡ journal.strip → OfBytes strip s (StandsFor (standing strip journal)) → has_staged journal ≡ false → kept ≡ [] → log_of strip journal kept ≡ log → OfBytes strip s (λ bytes. log ≡ Some (joined (frames_of bytes)))

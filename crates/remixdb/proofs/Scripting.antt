@@ -1,6 +1,6 @@
 -- What the end of a session says of the bytes of a script. To know: `script_tells`, `by_end`.
 use Rattle.std.proofs.Common.{◌≡◌, ℕ, zero, suc, ◌+◌, ◌-◌, ◌^◌, ◌<◌, ◌≤◌, min, Bool, true, false, cond, eqb, List, [], ◌∷◌, ◌++◌, length, take, Option, Some, None, refl, sym, ap, subst, ◌∙◌, append_assoc, arith, inl, inr, ◌⊎◌}
-use Rattle.std.specs.Prelude.{IfSome, IsTrue, Result, Ok, Err, OnOk, ⊤}
+use Rattle.std.specs.Prelude.{IfSome, IsTrue, Result, Ok, Err, OnOk}
 use Rattle.std.specs.Io.KnownBytes.{prepend_known, append_known}
 use Rattle.std.proofs.Math.Dec.{eqb-suc-zero}
 use Rattle.std.proofs.lemmas.List.{append-nil, length-append, take_all}
@@ -9,7 +9,7 @@ use Rattle.disk_model.specs.declared.device_error.DeviceError.TheVariants as dev
 use Rattle.disk_model.specs.declared.strip.Strip.{Ghosts}
 use Rattle.disk_model.specs.Piles.{Units, number_at}
 use Rattle.link_model.specs.Faults.{Rose}
-use Rattle.frame_journal.specs.Frames.{frames_of, HasNoTorn, IsTornAt}
+use Rattle.frame_journal.specs.Frames.{frames_of, StandsFor, HasNoTorn, IsTornAt}
 use Rattle.frame_journal.specs.Devices.{OfBytes, KeepsBytes}
 use Rattle.frame_journal.specs.Openings.{TellsTorn}
 use Rattle.frame_journal.specs.declared.journal_error.JournalError.{JournalError}
@@ -32,7 +32,7 @@ use Rattle.remixdb.specs.Lent.{told_bytes}
 use Rattle.remixdb.specs.MapRows.{MapRows}
 use Rattle.remixdb.specs.Logged.{joined, IsSameStrip}
 use Rattle.remixdb.specs.Outcomes.{status_of, outcome_of_end, failed_of, short_of, least_of, outcome_by, outcome_of_run, outcome_of_refusal}
-use Rattle.remixdb.specs.Scripts.{HostState, ScriptBytes, Conversed, TellsNoFault, Logs, WasSteady, LogsIfAllTold, IsWellFormed, EndsWell, EndsBadly, EndsCutShort, EndedBy, Served, HasTorn, HasNone, IsSilent, ScriptEnds}
+use Rattle.remixdb.specs.Scripts.{HostState, ScriptBytes, Conversed, TellsNoFault, Logs, WasSteady, WasFaulty, AreCounted, IsWellFormed, EndsWell, EndsBadly, EndsCutShort, EndedBy, Served, HasTorn, HasNone, IsSilent, ScriptEnds}
 use Rattle.remixdb.proofs.WellFormed.{never_cut, never_refused}
 
 -- a map that begins empty, with this log
@@ -126,16 +126,16 @@ no_fault s none scene asked answered same e = λ number. omega (arith, e.units n
 -- the log at the first scene and at the last are the payloads of the strip before and after
 pub record AreLogs (s : Session) : Type 0 where
   pub first : (old : List ℕ) → s.old.strip ≡ Some old → s.log ≡ Some (joined (frames_of old))
-  pub last : (old : List ℕ) → s.old.strip ≡ Some old → (now : List ℕ) × (s.new.strip ≡ Some now) × (s.last.store.map.log ≡ Some (joined (frames_of now)))
+  pub last : (old : List ℕ) → s.old.strip ≡ Some old → (now : List ℕ) × (s.new.strip ≡ Some now) × StandsFor (frames_of now) now × (s.last.store.map.log ≡ Some (joined (frames_of now)))
 
 logged : (s : Session) → AreLogs s → Holds s (λ asked answered. Logs s.old.strip s.new.strip asked answered)
 logged s logs scene asked answered same e = λ old is_old.
     let last = logs.last old is_old in
     let first = logs.first old is_old in
     let grew = log-accepted (fresh s.log) scene.store.map asked answered e.answers in
-    let is : scene.store.map.log ≡ Some (joined (frames_of last.0)) = ap (λ (t : StoreState). t.map.log) same ∙ last.2 in
+    let is : scene.store.map.log ≡ Some (joined (frames_of last.0)) = ap (λ (t : StoreState). t.map.log) same ∙ last.3 in
     let both : Some (joined (frames_of last.0)) ≡ Some (joined (frames_of old) ++ spell_requests (accepted asked answered)) = sym is ∙ grew ∙ ap (λ (o : Option (List ℕ)). append_known o (spell_requests (accepted asked answered))) first in
-    (last.0, last.1, some_is (joined (frames_of last.0)) (joined (frames_of old) ++ spell_requests (accepted asked answered)) both)
+    (last.0, last.1, last.2, some_is (joined (frames_of last.0)) (joined (frames_of old) ++ spell_requests (accepted asked answered)) both)
 
 -- ---- by end
 
@@ -238,22 +238,22 @@ not_served : (status : ℕ) → (status ≡ 3) ⊎ ((status ≡ 4) ⊎ (status �
 not_served status is P other = absurd (omega (arith, is, other))
 
 well : (b : ScriptBytes) → (w : EndsWell b) × WasSteady b.old b.new w.requests w.replies → HasNone b.old.strip → ScriptEnds 0 b
-well b w none = record { well = λ e. w; badly = λ e. absurd (omega (arith, e)); torn = λ e. absurd (omega (arith, e)); faulted = λ e. absurd (omega (arith, e)); cut_short = λ e. absurd (omega (arith, e)); short = λ e. absurd (omega (arith, e)); whole = λ e. none; complete = never_badly b }
+well b w none = record { well = λ e. w; badly = λ e. absurd (omega (arith, e)); torn = λ e. absurd (omega (arith, e)); faulted = λ e. absurd (omega (arith, e)); cut_short = λ e. absurd (omega (arith, e)); short = λ e. absurd (omega (arith, e)); whole = λ e. none; idle = inl none; complete = never_badly b }
 
 badly : (b : ScriptBytes) → (w : EndsBadly b) × WasSteady b.old b.new w.requests w.replies → HasNone b.old.strip → ScriptEnds 1 b
-badly b w none = record { well = λ e. absurd (omega (arith, e)); badly = λ e. w; torn = λ e. absurd (omega (arith, e)); faulted = λ e. absurd (omega (arith, e)); cut_short = λ e. absurd (omega (arith, e)); short = λ e. absurd (omega (arith, e)); whole = λ e. none; complete = never_badly b }
+badly b w none = record { well = λ e. absurd (omega (arith, e)); badly = λ e. w; torn = λ e. absurd (omega (arith, e)); faulted = λ e. absurd (omega (arith, e)); cut_short = λ e. absurd (omega (arith, e)); short = λ e. absurd (omega (arith, e)); whole = λ e. none; idle = inl none; complete = never_badly b }
 
 by_stream : (b : ScriptBytes) → (w : EndsCutShort b) × WasSteady b.old b.new w.requests w.replies → HasNone b.old.strip → ScriptEnds 5 b
-by_stream b w none = record { well = λ e. absurd (omega (arith, e)); badly = λ e. absurd (omega (arith, e)); torn = λ e. absurd (omega (arith, e)); faulted = λ e. absurd (omega (arith, e)); cut_short = λ e. w; short = λ e. absurd (omega (arith, e)); whole = λ e. none; complete = never_badly b }
+by_stream b w none = record { well = λ e. absurd (omega (arith, e)); badly = λ e. absurd (omega (arith, e)); torn = λ e. absurd (omega (arith, e)); faulted = λ e. absurd (omega (arith, e)); cut_short = λ e. w; short = λ e. absurd (omega (arith, e)); whole = λ e. none; idle = inl none; complete = never_badly b }
 
 torn : (b : ScriptBytes) → IsSilent b → b.new.strip ≡ b.old.strip → HasTorn b.old.strip → ScriptEnds 3 b
-torn b silent same t = record { well = λ e. absurd (omega (arith, e)); badly = λ e. absurd (omega (arith, e)); torn = λ e. (silent, same, t); faulted = λ e. absurd (omega (arith, e)); cut_short = λ e. absurd (omega (arith, e)); short = λ e. absurd (omega (arith, e)); whole = not_served 3 (inl refl) (HasNone b.old.strip); complete = never_badly b }
+torn b silent same t = record { well = λ e. absurd (omega (arith, e)); badly = λ e. absurd (omega (arith, e)); torn = λ e. (silent, same, t); faulted = λ e. absurd (omega (arith, e)); cut_short = λ e. absurd (omega (arith, e)); short = λ e. absurd (omega (arith, e)); whole = not_served 3 (inl refl) (HasNone b.old.strip); idle = inr (silent, same); complete = never_badly b }
 
-faulted : (b : ScriptBytes) → (IsSilent b × (b.new.strip ≡ b.old.strip)) ⊎ Served b (LogsIfAllTold b.old b.new) → ScriptEnds 4 b
-faulted b w = record { well = λ e. absurd (omega (arith, e)); badly = λ e. absurd (omega (arith, e)); torn = λ e. absurd (omega (arith, e)); faulted = λ e. w; cut_short = λ e. absurd (omega (arith, e)); short = λ e. absurd (omega (arith, e)); whole = not_served 4 (inr (inl refl)) (HasNone b.old.strip); complete = never_badly b }
+faulted : (b : ScriptBytes) → HasNone b.old.strip ⊎ (IsSilent b × (b.new.strip ≡ b.old.strip)) → (IsSilent b × (b.new.strip ≡ b.old.strip)) ⊎ Served b (WasFaulty b.old b.new) → ScriptEnds 4 b
+faulted b idle w = record { well = λ e. absurd (omega (arith, e)); badly = λ e. absurd (omega (arith, e)); torn = λ e. absurd (omega (arith, e)); faulted = λ e. w; cut_short = λ e. absurd (omega (arith, e)); short = λ e. absurd (omega (arith, e)); whole = not_served 4 (inr (inl refl)) (HasNone b.old.strip); idle = idle; complete = never_badly b }
 
-too_short : (b : ScriptBytes) → IsSilent b ⊎ Served b (λ requests replies. ⊤) → ScriptEnds 6 b
-too_short b w = record { well = λ e. absurd (omega (arith, e)); badly = λ e. absurd (omega (arith, e)); torn = λ e. absurd (omega (arith, e)); faulted = λ e. absurd (omega (arith, e)); cut_short = λ e. absurd (omega (arith, e)); short = λ e. w; whole = not_served 6 (inr (inr refl)) (HasNone b.old.strip); complete = never_badly b }
+too_short : (b : ScriptBytes) → HasNone b.old.strip ⊎ (IsSilent b × (b.new.strip ≡ b.old.strip)) → IsSilent b ⊎ Served b (AreCounted b.old b.new) → ScriptEnds 6 b
+too_short b idle w = record { well = λ e. absurd (omega (arith, e)); badly = λ e. absurd (omega (arith, e)); torn = λ e. absurd (omega (arith, e)); faulted = λ e. absurd (omega (arith, e)); cut_short = λ e. absurd (omega (arith, e)); short = λ e. w; whole = not_served 6 (inr (inr refl)) (HasNone b.old.strip); idle = idle; complete = never_badly b }
 
 -- the status of a session over devices that did not fail
 steady : (end : SessionEnd) (b : ScriptBytes) → (end ≡ Memory → ⊥) → HasNone b.old.strip → Came end b (WasSteady b.old b.new) → ScriptEnds (status_of (outcome_of_end end)) b
@@ -286,6 +286,7 @@ pub record Strips {S U : Type 0} (strip : Ghosts S) (first last : S) (log log_no
   pub tells : strip.tells last ≡ strip.tells first
   pub begins : IsTrue (strip.tells first) → log ≡ Some (joined (frames_of (strip.content first)))
   pub ends : OnOk settled (IsTrue (strip.tells last) → log_now ≡ Some (joined (frames_of (strip.content last))))
+  pub stands : OnOk settled (IsTrue (strip.tells last) → StandsFor (frames_of (strip.content last)) (strip.content last))
   pub none : IsTrue (strip.tells first) → HasNoTorn (strip.content first)
 
 pub ok_of : {U : Type 0} (settled : Result U DeviceError) (P : Type 0) → short_of settled ≡ false → failed_of settled ≡ None → OnOk settled P → P
@@ -299,27 +300,27 @@ logs_of strip first last settled s strips is_old is_new short failed = record {
   last = λ old is.
       let k = known_told strip first old (sym is_old ∙ is) in
       let told : strip.tells last ≡ true = strips.tells ∙ k.0 in
-      (strip.content last, is_new ∙ rw told refl, ok_of settled (IsTrue (strip.tells last) → s.last.store.map.log ≡ Some (joined (frames_of (strip.content last)))) short failed strips.ends told);
+      (strip.content last, is_new ∙ rw told refl, ok_of settled (IsTrue (strip.tells last) → StandsFor (frames_of (strip.content last)) (strip.content last)) short failed strips.stands told, ok_of settled (IsTrue (strip.tells last) → s.last.store.map.log ≡ Some (joined (frames_of (strip.content last)))) short failed strips.ends told);
 }
 
 -- a session came to this status
 abbrev pub Tells : Session → ℕ → Type 0
 Tells s status = (left : List ℕ) × (after : List ℕ) × (s.last.coming ≡ Some left) × (s.last.put ≡ Some after) × ScriptEnds status (bytes_of s left after)
 
-by_outcome : (s : Session) (is_short short : Bool) (failed : Option ℕ) (end : SessionEnd) (decided : ℕ) → CountsOne s → HasNone s.old.strip → (short ≡ false → Holds s (LogsIfAllTold s.old s.new)) → (short ≡ false → failed ≡ None → Holds s (WasSteady s.old s.new)) → ((end ≡ SourceFault) ⊎ (end ≡ SinkFault) → Rose s.old.stream_faults s.new.stream_faults) → SessionEnds end 0 (first_of s) s.last decided → Tells s (status_of (outcome_by is_short short failed end))
-by_outcome s true short failed end decided counts none told clean rose h =
-    let t = by_end s (λ asked answered. ⊤) end decided counts (λ scene asked answered same e. tt) rose h in
-    (t.0, t.1, t.2, t.3, too_short (bytes_of s t.0 t.1) (served_or_silent end (bytes_of s t.0 t.1) (λ asked answered. ⊤) t.4))
-by_outcome s false true failed end decided counts none told clean rose h =
-    let t = by_end s (λ asked answered. ⊤) end decided counts (λ scene asked answered same e. tt) rose h in
-    (t.0, t.1, t.2, t.3, too_short (bytes_of s t.0 t.1) (served_or_silent end (bytes_of s t.0 t.1) (λ asked answered. ⊤) t.4))
-by_outcome s false false failed Memory decided counts none told clean rose h =
-    let t = by_end s (λ asked answered. ⊤) Memory decided counts (λ scene asked answered same e. tt) rose h in
-    (t.0, t.1, t.2, t.3, too_short (bytes_of s t.0 t.1) (inl t.4))
-by_outcome s false false (Some number) end decided counts none told clean rose h =
-    let t = by_end s (LogsIfAllTold s.old s.new) end decided counts (told refl) rose h in
-    (t.0, t.1, t.2, t.3, faulted (bytes_of s t.0 t.1) (inr (served end (bytes_of s t.0 t.1) (LogsIfAllTold s.old s.new) (λ e. cc) t.4)))
-by_outcome s false false None end decided counts none told clean rose h =
+by_outcome : (s : Session) (is_short short : Bool) (failed : Option ℕ) (end : SessionEnd) (decided : ℕ) → CountsOne s → HasNone s.old.strip → Holds s (AreCounted s.old s.new) → (short ≡ false → Holds s (WasFaulty s.old s.new)) → (short ≡ false → failed ≡ None → Holds s (WasSteady s.old s.new)) → ((end ≡ SourceFault) ⊎ (end ≡ SinkFault) → Rose s.old.stream_faults s.new.stream_faults) → SessionEnds end 0 (first_of s) s.last decided → Tells s (status_of (outcome_by is_short short failed end))
+by_outcome s true short failed end decided counts none counted told clean rose h =
+    let t = by_end s (AreCounted s.old s.new) end decided counts counted rose h in
+    (t.0, t.1, t.2, t.3, too_short (bytes_of s t.0 t.1) (inl none) (served_or_silent end (bytes_of s t.0 t.1) (AreCounted s.old s.new) t.4))
+by_outcome s false true failed end decided counts none counted told clean rose h =
+    let t = by_end s (AreCounted s.old s.new) end decided counts counted rose h in
+    (t.0, t.1, t.2, t.3, too_short (bytes_of s t.0 t.1) (inl none) (served_or_silent end (bytes_of s t.0 t.1) (AreCounted s.old s.new) t.4))
+by_outcome s false false failed Memory decided counts none counted told clean rose h =
+    let t = by_end s (AreCounted s.old s.new) Memory decided counts counted rose h in
+    (t.0, t.1, t.2, t.3, too_short (bytes_of s t.0 t.1) (inl none) (inl t.4))
+by_outcome s false false (Some number) end decided counts none counted told clean rose h =
+    let t = by_end s (WasFaulty s.old s.new) end decided counts (told refl) rose h in
+    (t.0, t.1, t.2, t.3, faulted (bytes_of s t.0 t.1) (inl none) (inr (served end (bytes_of s t.0 t.1) (WasFaulty s.old s.new) (λ e. cc) t.4)))
+by_outcome s false false None end decided counts none counted told clean rose h =
     let t = by_end s (WasSteady s.old s.new) end decided counts (clean refl refl) rose h in
     (t.0, t.1, t.2, t.3, steady end (bytes_of s t.0 t.1) (λ e. cc) none t.4)
 
@@ -327,22 +328,25 @@ by_outcome s false false None end decided counts none told clean rose h =
 pub script_tells : {S T U : Type 0} (strip : Ghosts S) (first last : S) (cleared : Result T DeviceError) (told : Option ℕ) (settled : Result U DeviceError) (end : SessionEnd) (decided : ℕ) (input before left put : Option (List ℕ)) (map_first map_last : MapState) (log : Option (List ℕ)) (count count_now : ℕ) (units : List (Option Units)) (old new : HostState) (status : ℕ)
     → map_first ≡ fresh log → Strips strip first last log map_last.log settled → old.strip ≡ told_bytes strip first → new.strip ≡ told_bytes strip last → new.input ≡ left → new.output ≡ put
     → (told ≡ None → (number : ℕ) → number_at units number ≡ 0)
+    → ((number : ℕ) → min (count + number) (2 ^ 64 - 1) ≤ count_now → min (old.device_faults + number) (2 ^ 64 - 1) ≤ new.device_faults)
     → ((number : ℕ) → min (count + number) (2 ^ 64 - 1) ≤ count_now → new.device_faults ≡ old.device_faults + number → new.device_faults < 2 ^ 64 - 1 → short_of settled ≡ false → failed_of settled ≡ None)
     → ((end ≡ SourceFault) ⊎ (end ≡ SinkFault) → Rose old.stream_faults new.stream_faults)
     → status ≡ status_of (outcome_of_run cleared told settled end)
     → SessionEnds end 0 (scene_of input before map_first (counts_at count) []) (scene_of left put map_last (counts_at count_now) units) decided
     → (i b : List ℕ) → input ≡ Some i → before ≡ Some b → (l : List ℕ) × (a : List ℕ) × (new.input ≡ Some l) × (new.output ≡ Some a) × ScriptEnds status (record { input = i; left = l; before = b; after = a; old = old; new = new })
-script_tells {S} {T} {U} strip first last cleared told settled end decided input before left put map_first map_last log count count_now units old new status is_fresh strips is_old is_new is_left is_put none all_told rose n h i b is_i is_b =
+script_tells {S} {T} {U} strip first last cleared told settled end decided input before left put map_first map_last log count count_now units old new status is_fresh strips is_old is_new is_left is_put none in_count all_told rose n h i b is_i is_b =
     let scene = scene_of left put map_last (counts_at count_now) units in
     let s : Session = record { input = i; before = b; log = log; count = count; count_now = count_now; last = scene; old = old; new = new } in
     let at_map = subst (λ (m : MapState). SessionEnds end 0 (scene_of input before m (counts_at count) []) scene decided) is_fresh h in
     let at_i = subst (λ (o : Option (List ℕ)). SessionEnds end 0 (scene_of o before (fresh log) (counts_at count) []) scene decided) is_i at_map in
     let at_b = subst (λ (o : Option (List ℕ)). SessionEnds end 0 (scene_of (Some i) o (fresh log) (counts_at count) []) scene decided) is_b at_i in
     let is_whole : HasNone old.strip = λ bytes is. let k = known_told strip first bytes (sym is_old ∙ is) in subst (λ (t : List ℕ). HasNoTorn t) k.1 (strips.none k.0) in
-    let if_told : short_of settled ≡ false → Holds s (LogsIfAllTold old new) = λ short other asked answered same e all below.
-    let each : min (count + told_by_all 0 answered) (2 ^ 64 - 1) ≤ other.store.counts 0 = e.counts.each 0 in
-    let counted : min (count + told_by_all 0 answered) (2 ^ 64 - 1) ≤ count_now = omega (arith, each, ap (λ (t : StoreState). t.counts 0) same) in
-    logged s (logs_of strip first last settled s strips is_old is_new short (all_told (told_by_all 0 answered) counted all below short)) other asked answered same e in
+    let counted : (number : ℕ) (other : Scene) → other.store ≡ scene.store → min (count + number) (2 ^ 64 - 1) ≤ other.store.counts 0 → min (count + number) (2 ^ 64 - 1) ≤ count_now = λ number other same each. omega (arith, each, ap (λ (t : StoreState). t.counts 0) same) in
+    let in_host : Holds s (AreCounted old new) = λ other asked answered same e. in_count (told_by_all 0 answered) (counted (told_by_all 0 answered) other same (e.counts.each 0)) in
+    let if_told : short_of settled ≡ false → Holds s (WasFaulty old new) = λ short other asked answered same e. record {
+      counted = in_host other asked answered same e;
+      logged = λ all below. logged s (logs_of strip first last settled s strips is_old is_new short (all_told (told_by_all 0 answered) (counted (told_by_all 0 answered) other same (e.counts.each 0)) all below short)) other asked answered same e;
+    } in
     let clean : short_of settled ≡ false → least_of (failed_of cleared) (least_of told (failed_of settled)) ≡ None → Holds s (WasSteady old new) = λ short failed other asked answered same e.
     let one = least_none (failed_of cleared) (least_of told (failed_of settled)) failed in
     let two = least_none told (failed_of settled) one.1 in
@@ -350,7 +354,7 @@ script_tells {S} {T} {U} strip first last cleared told settled end decided input
       told = no_fault s (none two.0) other asked answered same e;
       logged = logged s (logs_of strip first last settled s strips is_old is_new short two.1) other asked answered same e;
     } in
-    let t = by_outcome s (short_of cleared) (short_of settled) (least_of (failed_of cleared) (least_of told (failed_of settled))) end decided (λ number. refl) is_whole if_told clean rose at_b in
+    let t = by_outcome s (short_of cleared) (short_of settled) (least_of (failed_of cleared) (least_of told (failed_of settled))) end decided (λ number. refl) is_whole in_host if_told clean rose at_b in
     (t.0, t.1, is_left ∙ t.2, is_put ∙ t.3, subst (λ (k : ℕ). ScriptEnds k (bytes_of s t.0 t.1)) (sym n) t.4)
 
 -- what is told of a strip that came back as it was
@@ -375,9 +379,9 @@ refused_tells strip s back error old new status tells same kept is_old is_new sa
     strip_same = is_new ∙ same_told_bytes strip s back same kept ∙ sym is_old
 
     by_error : (error : JournalError) → OfBytes strip s (TellsTorn error) → ScriptEnds (status_of (outcome_of_refusal error)) bytes
-    by_error (journal.Fault unit) t = faulted bytes (inl ((refl, refl), strip_same))
+    by_error (journal.Fault unit) t = faulted bytes (inr ((refl, refl), strip_same)) (inl ((refl, refl), strip_same))
     by_error (journal.TornHeader at) t = torn bytes (refl, refl) strip_same (λ found is. let k = known_told strip s found (sym is_old ∙ is) in (at, subst (λ (x : List ℕ). IsTornAt x at) k.1 (t k.0)))
-    by_error journal.Memory t = too_short bytes (inl (refl, refl))
+    by_error journal.Memory t = too_short bytes (inr ((refl, refl), strip_same)) (inl (refl, refl))
 
 pub same_state : (a b : HostState) → a.input ≡ b.input → a.output ≡ b.output → a.strip ≡ b.strip → a.device_faults ≡ b.device_faults → a.stream_faults ≡ b.stream_faults → a ≡ b
 same_state a b input output strip devices streams =

@@ -1,9 +1,11 @@
 -- The log of a map: the payloads of a journal's frames, a payload that is staged, and what is kept for the next one.
-use Rattle.std.specs.Prelude.{◌≡◌, ℕ, List, [], ◌∷◌, ◌++◌, Option, Some, None, if◌then◌else◌}
+use Rattle.std.specs.Prelude.{◌≡◌, ◌==◌, ℕ, List, [], ◌∷◌, ◌++◌, Option, Some, None, if◌then◌else◌}
 use Rattle.disk_model.specs.declared.strip.Strip.{Ghosts}
 use Rattle.frame_journal.specs.FrameValue.{FrameValue}
 use Rattle.frame_journal.specs.JournalState.{JournalState, has_staged}
 use Rattle.frame_journal.specs.Journals.{standing}
+use Rattle.session_core.specs.Machines.{MapState}
+use Rattle.remixdb.specs.MapRows.{MapRows}
 
 -- the payloads of frames, one behind the other
 abbrev pub joined : List FrameValue → List ℕ
@@ -21,6 +23,14 @@ log_bytes strip journal kept = joined (standing strip journal) ++ (pending journ
 -- the log, where the strip tells its bytes
 abbrev pub log_of : {S : Type 0} → Ghosts S → JournalState S → List ℕ → Option (List ℕ)
 log_of strip journal kept = if strip.tells journal.strip then Some (log_bytes strip journal kept) else None
+
+-- a logged map as a session sees it: its rows, the number of its next update, and its log
+abbrev pub map_of : {S : Type 0} → Ghosts S → MapRows → JournalState S → List ℕ → MapState
+map_of strip map journal kept = record { rows = map.rows; number = map.number; log = log_of strip journal kept }
+
+-- how often each device failed, of which device 0 alone, the strip, counts
+abbrev pub counts_of : {S : Type 0} → Ghosts S → JournalState S → ℕ → ℕ
+counts_of strip journal device = if device == 0 then strip.count journal.strip else 0
 
 -- a call left the log as it was, on the same strip
 pub record KeepsLog {S : Type 0} (strip : Ghosts S) (old new : JournalState S) (old_kept new_kept : List ℕ) : Type 0 where

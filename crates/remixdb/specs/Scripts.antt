@@ -1,5 +1,5 @@
 -- What a script does to the bytes of its streams and of its strip, by its status.
-use Rattle.std.specs.Prelude.{◌≡◌, ◌⊎◌, ℕ, ◌+◌, ◌-◌, ◌^◌, ◌<◌, ◌≤◌, ⊤, List, [], ◌++◌, length, take, Option, Some}
+use Rattle.std.specs.Prelude.{◌≡◌, ◌⊎◌, ℕ, ◌+◌, ◌-◌, ◌^◌, ◌<◌, ◌≤◌, min, List, [], ◌++◌, length, take, Option, Some}
 use Rattle.std.specs.List.{AllByRecursion}
 use Rattle.link_model.specs.Faults.{Rose}
 use Rattle.history_core.specs.declared.request.Request.{Request}
@@ -8,7 +8,7 @@ use Rattle.history_core.specs.declared.reply.Reply.TheVariants.{BadMessage}
 use Rattle.history_core.specs.Sessions.{IsSession}
 use Rattle.wire_protocol.specs.Grammar.{spell_requests, spell_reply, spell_replies, IsRequest}
 use Rattle.wire_protocol.specs.Messages.{wanted}
-use Rattle.frame_journal.specs.Frames.{frames_of, IsTornAt, HasNoTorn}
+use Rattle.frame_journal.specs.Frames.{frames_of, StandsFor, IsTornAt, HasNoTorn}
 use Rattle.session_core.specs.declared.filling.TheConstants.{SESSION_MAX}
 use Rattle.session_core.specs.Machines.{accepted}
 use Rattle.session_core.specs.Telling.{told_by_all}
@@ -50,9 +50,10 @@ pub record Conversed (input : List ℕ) (requests : List Request) (replies : Lis
 abbrev pub TellsNoFault : List Reply → Type 0
 TellsNoFault replies = (device : ℕ) → told_by_all device replies ≡ 0
 
--- where the strip is told, its payloads, joined, are those from before and the accepted updates as they were spelled
+-- where the strip is told, it is a journal with no torn header, and its payloads, joined, are those from before and the
+-- accepted updates as they were spelled
 abbrev pub Logs : Option (List ℕ) → Option (List ℕ) → List Request → List Reply → Type 0
-Logs before after requests replies = (old : List ℕ) → before ≡ Some old → (new : List ℕ) × (after ≡ Some new) × (joined (frames_of new) ≡ joined (frames_of old) ++ spell_requests (accepted requests replies))
+Logs before after requests replies = (old : List ℕ) → before ≡ Some old → (new : List ℕ) × (after ≡ Some new) × StandsFor (frames_of new) new × (joined (frames_of new) ≡ joined (frames_of old) ++ spell_requests (accepted requests replies))
 
 -- what is known of a session over devices that did not fail: no fault is told, and its updates are logged
 pub record WasSteady (old new : HostState) (requests : List Request) (replies : List Reply) : Type 0 where
@@ -62,6 +63,16 @@ pub record WasSteady (old new : HostState) (requests : List Request) (replies : 
 -- where each fault of a device that the host counted was told in a reply, the updates are logged
 abbrev pub LogsIfAllTold : HostState → HostState → List Request → List Reply → Type 0
 LogsIfAllTold old new requests replies = new.device_faults ≡ old.device_faults + told_by_all 0 replies → new.device_faults < 2 ^ 64 - 1 → Logs old.strip new.strip requests replies
+
+-- each fault of a device that these replies tell was counted by the host
+abbrev pub AreCounted : HostState → HostState → List Request → List Reply → Type 0
+AreCounted old new requests replies = min (old.device_faults + told_by_all 0 replies) (2 ^ 64 - 1) ≤ new.device_faults
+
+-- what is known of a session over a device that failed: no fault is told that was not counted, and where no other was
+-- counted, its updates are logged
+pub record WasFaulty (old new : HostState) (requests : List Request) (replies : List Reply) : Type 0 where
+  pub counted : AreCounted old new requests replies
+  pub logged : LogsIfAllTold old new requests replies
 
 -- Bytes that are whole requests: up to a QUIT, behind which anything may stand, or to their end.
 abbrev pub IsWellFormed : List ℕ → Type 0
@@ -135,12 +146,14 @@ pub record ScriptEnds (status : ℕ) (b : ScriptBytes) : Type 0 where
   pub badly : status ≡ 1 → (s : EndsBadly b) × WasSteady b.old b.new s.requests s.replies
   pub torn : status ≡ 3 → IsSilent b × (b.new.strip ≡ b.old.strip) × HasTorn b.old.strip
   -- opening failed, or a session was served all the same
-  pub faulted : status ≡ 4 → (IsSilent b × (b.new.strip ≡ b.old.strip)) ⊎ Served b (LogsIfAllTold b.old b.new)
+  pub faulted : status ≡ 4 → (IsSilent b × (b.new.strip ≡ b.old.strip)) ⊎ Served b (WasFaulty b.old b.new)
   pub cut_short : status ≡ 5 → (s : EndsCutShort b) × WasSteady b.old b.new s.requests s.replies
   -- memory was refused before the first byte, or in opening's clear or behind the last reply
-  pub short : status ≡ 6 → IsSilent b ⊎ Served b (λ requests replies. ⊤)
+  pub short : status ≡ 6 → IsSilent b ⊎ Served b (AreCounted b.old b.new)
   -- a session begins only over a strip without a torn header
   pub whole : (status ≡ 0) ⊎ ((status ≡ 1) ⊎ (status ≡ 5)) → HasNone b.old.strip
+  -- over a strip with one nothing is taken or put, and the strip stays as it was
+  pub idle : HasNone b.old.strip ⊎ (IsSilent b × (b.new.strip ≡ b.old.strip))
   -- input that is well formed does not end badly
   pub complete : IsWellFormed b.input → length b.input < SESSION_MAX → EndsBadly b → ⊥
 

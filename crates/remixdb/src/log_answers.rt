@@ -1,5 +1,8 @@
-ghost use Rattle.std.specs.Prelude.{◌==◌, if◌then◌else◌};
-ghost use Rattle.remixdb.specs.Logged.{log_of};
+ghost use Rattle.std.specs.Prelude.{◌≡◌, ◌≤◌, ◌<◌, ◌+◌, ◌^◌, false, length};
+ghost use Rattle.frame_journal.specs.JournalState.{is_in_doubt};
+ghost use Rattle.session_core.specs.Answering.{PutAnswer, PutCause};
+ghost use Rattle.remixdb.specs.Logged.{map_of, counts_of};
+ghost use Rattle.remixdb.specs.declared.logged_map.TheConstants.{KEPT_MAX};
 
 use crate::logged_map::LoggedMap;
 use disk_model::Strip;
@@ -23,9 +26,9 @@ impl<S> LogAnswers<S> {
 impl<S: Strip> Answers for LogAnswers<S> {
     type Pass = LoggedMap<S>;
 
-    ghost map = { λ pass. record { rows = pass.map.rows; number = pass.map.number; log = log_of S.Strip pass.journal pass.kept.items } };
+    ghost map = { λ pass. map_of S.Strip pass.map pass.journal pass.kept.items };
 
-    ghost counts = { λ pass device. if device == 0 then S.count pass.journal.strip else 0 };
+    ghost counts = { λ pass. counts_of S.Strip pass.journal };
 
     ghost books = { λ device. record { device = device } };
 
@@ -35,7 +38,15 @@ impl<S: Strip> Answers for LogAnswers<S> {
         pass: &mut LoggedMap<S>,
         key: Key,
         value: Value,
-    ) -> Result<u64, UpdateError> {
+    ) -> Result<u64, UpdateError>
+        requires { pass.old.map.number < 2 ^ 62 }
+        ensures answer { PutAnswer (map_of S.Strip pass.old.map pass.old.journal pass.old.kept.items) key value result (map_of S.Strip pass.new.map pass.new.journal pass.new.kept.items) }
+        ensures cause { PutCause (λ device. record { device = device }) (counts_of S.Strip pass.old.journal) (counts_of S.Strip pass.new.journal) result }
+
+        // The strip is called only where it must be, and at most so often.
+        ensures quiet { is_in_doubt pass.old.journal ≡ false → length pass.old.kept.items < KEPT_MAX → pass.new.journal ≡ pass.old.journal }
+        ensures calls { S.calls pass.new.journal.strip ≤ S.calls pass.old.journal.strip + 12 }
+    {
         pass.make_room(alloc)?;
         match pass.enter(key, value) {
             Ok(number) => Ok(number),

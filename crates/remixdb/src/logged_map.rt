@@ -7,7 +7,7 @@ ghost use Rattle.frame_journal.specs.JournalState.{is_ready, has_staged, is_in_d
 ghost use Rattle.frame_journal.specs.Devices.{CauseIn, OfBytes, KeepsBytes};
 ghost use Rattle.frame_journal.specs.Causes.{OpeningCause};
 ghost use Rattle.frame_journal.specs.Openings.{TellsTorn};
-ghost use Rattle.frame_journal.specs.Frames.{frames_of, HasNoTorn};
+ghost use Rattle.frame_journal.specs.Frames.{frames_of, StandsFor, HasNoTorn};
 ghost use Rattle.remixdb.specs.Logged.{log_of, joined, KeepsLog, IsSameStrip};
 ghost use Rattle.remixdb.specs.declared.logged_map.TheConstants.{KEPT_ROOM};
 
@@ -47,6 +47,7 @@ impl<S: Strip> LoggedMap<S> {
         ensures ready { is_ready self.new.journal ≡ is_ready self.old.journal }
         ensures kept { self.new.kept.items ≡ self.old.kept.items }
         ensures map { self.new.map ≡ self.old.map }
+        ensures calls { S.calls self.new.journal.strip ≤ S.calls self.old.journal.strip + 4 }
         ensures cause { CauseIn S.Strip self.old.journal.strip self.new.journal.strip result }
     {
         self.journal.settle(alloc)
@@ -61,6 +62,7 @@ impl<S: Strip> LoggedMap<S> {
         ensures idle { has_staged self.new.journal ≡ false }
         ensures kept { self.new.kept.items ≡ self.old.kept.items }
         ensures map { self.new.map ≡ self.old.map }
+        ensures calls { S.calls self.new.journal.strip ≤ S.calls self.old.journal.strip + 4 }
         ensures cause { CauseIn S.Strip self.old.journal.strip self.new.journal.strip result }
     {
         if self.journal.ready() {
@@ -98,6 +100,7 @@ impl<S: Strip> LoggedMap<S> {
         ensures idle { OnOk result (has_staged self.new.journal ≡ false) }
         ensures kept { OnOk result (self.new.kept.items ≡ []) }
         ensures map { self.new.map ≡ self.old.map }
+        ensures calls { S.calls self.new.journal.strip ≤ S.calls self.old.journal.strip + 12 }
         ensures cause { CauseIn S.Strip self.old.journal.strip self.new.journal.strip result }
     {
         self.settle_staged(alloc)?;
@@ -145,6 +148,7 @@ impl<S: Strip> LoggedMap<S> {
         ensures doubt { OnOk result (is_in_doubt self.new.journal ≡ false) }
         ensures room { OnOk result (length self.new.kept.items < KEPT_MAX) }
         ensures map { self.new.map ≡ self.old.map }
+        ensures calls { S.calls self.new.journal.strip ≤ S.calls self.old.journal.strip + 12 }
         ensures cause { CauseIn S.Strip self.old.journal.strip self.new.journal.strip result }
     {
         if !self.journal.in_doubt() && self.kept.len() < KEPT_MAX {
@@ -185,7 +189,9 @@ impl<S: Strip> LoggedMap<S> {
     /// Settles all that is kept, and gives the strip back. At `Ok` its payloads are the log.
     pub(crate) fn close(mut self, alloc: Global) -> (S, Result<(), DeviceError>)
         ensures log { OnOk result.1 (OfBytes S.Strip result.0 (λ bytes. log_of S.Strip self.journal self.kept.items ≡ Some (joined (frames_of bytes)))) }
+        ensures stands { OnOk result.1 (OfBytes S.Strip result.0 (λ bytes. StandsFor (frames_of bytes) bytes)) }
         ensures strip { IsSameStrip S.Strip self.journal.strip result.0 }
+        ensures calls { S.calls result.0 ≤ S.calls self.journal.strip + 12 }
         ensures cause { CauseIn S.Strip self.journal.strip result.0 result.1 }
     {
         let settled = self.settle_all(alloc);

@@ -1,4 +1,4 @@
-ghost use Rattle.std.specs.Prelude.{◌≡◌, [], Some, None};
+ghost use Rattle.std.specs.Prelude.{◌≡◌, max, [], Some, None};
 ghost use Rattle.std.specs.Option.{option_copied};
 ghost use Rattle.remixdb.specs.Lent.{lent_of, lent_strip_of, bytes_at_home};
 ghost use Rattle.remixdb.specs.Told.{told_input, told_output};
@@ -25,6 +25,8 @@ impl MemoryHost {
         ensures strip { result.strip.strip ≡ Some strip }
         ensures streams { result.streams.pair ≡ Some (source, sink) }
         ensures notes { result.notes.items ≡ [] }
+        ensures device_faults { result.strip.faults ≡ strip.book.count }
+        ensures stream_faults { result.streams.faults ≡ max source.faults sink.faults }
     {
         let strip_faults = strip.faults();
         let source_faults = source.faults();

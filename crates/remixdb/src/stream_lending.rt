@@ -1,4 +1,4 @@
-ghost use Rattle.std.specs.Prelude.{◌≡◌, ◌≤◌, ◌<◌, ◌^◌, None, Some};
+ghost use Rattle.std.specs.Prelude.{◌≡◌, ◌≤◌, ◌<◌, ◌^◌, max, None, Some};
 ghost use Rattle.std.specs.Option.{ForSome};
 ghost use Rattle.remixdb.specs.Lent.{lent_of, IsLent, risen_by};
 
@@ -31,6 +31,7 @@ impl<S: Source + Drop, K: Sink + Drop> StreamLending<S, K> {
         requires source { S.faults source ≡ source_faults }
         requires sink { K.faults sink ≡ sink_faults }
         ensures home { result.pair ≡ Some (source, sink) }
+        ensures count { result.faults ≡ max source_faults sink_faults }
     {
         StreamLending {
             pair: Some((source, sink)),

@@ -24,6 +24,7 @@ impl<S: Strip + Drop> StripLending<S> {
         requires faults { S.count strip ≡ strip_faults }
         requires device { (S.book strip).device ≡ 0 }
         ensures home { result.strip ≡ Some strip }
+        ensures count { result.faults ≡ strip_faults }
     {
         StripLending {
             strip: Some(strip),

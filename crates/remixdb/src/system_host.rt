@@ -27,6 +27,7 @@ impl SystemHost {
         stdout: Stdout,
         stderr: Stderr,
     ) -> Result<SystemHost, NoMemory>
+        ensures none { IfOk result (λ host. (host.strip.faults ≡ 0) × (host.streams.faults ≡ 0)) }
         ensures strip_home { IfOk result (λ host. lent_strip_of host.strip.strip host.strip.strip_faults ≡ None) }
         ensures home { IfOk result (λ host. lent_of host.streams.pair host.streams.source_faults host.streams.sink_faults ≡ None) }
     {

@@ -1,14 +1,17 @@
 //! When a PUT settles the log: where enough is kept, or a frame is in doubt.
 use crate::tests::running::{Given, Wanted, joined, script};
-use crate::tests::samples::{BYE, DEVICE_0, PUT, QUIT};
+use crate::tests::samples::{BYE, DEVICE_0, GET, PUT, QUIT};
 use std::process::Abort;
 use std::test::Fail;
 
 const FAULT_0: &[u8] = &[0, 0, 0, 2, 0xE4, 0];
 
+/// No value of `a` after four updates.
+const ABSENT_4: &[u8] = &[0, 0, 0, 9, 0x83, 0, 0, 0, 0, 0, 0, 0, 4];
+
 const DONE_4: &[u8] = &[0, 0, 0, 9, 0x81, 0, 0, 0, 0, 0, 0, 0, 4];
 
-/// PUT `a` with a value of so many bytes: a message of 12 bytes more.
+/// PUT `k` with a value of so many bytes: a message of 12 bytes more.
 fn long_put(rt: &(impl Abort + AllocGlobal), len: u16) -> Result<Vec<u8>, Fail> {
     let value = vec![in rt.alloc(); 0x76u8; len as usize]?;
     let body = 8 + len as u32;
@@ -16,7 +19,7 @@ fn long_put(rt: &(impl Abort + AllocGlobal), len: u16) -> Result<Vec<u8>, Fail> 
         rt,
         &[
             &body.to_be_bytes(),
-            &[1, 0, 1, 0x61, 0, 0],
+            &[1, 0, 1, 0x6B, 0, 0],
             &len.to_be_bytes(),
             &value,
         ],
@@ -57,18 +60,18 @@ fn a_put_settles_where_enough_is_kept(rt: HostRuntime) -> Result<(), Fail> {
     leaves(&rt, 65_491, &[0xA5, 0, 4, 0, 0], &[0xA5, 0, 0, 0, 13])
 }
 
-/// Four long PUTs, these, and QUIT, over a strip that fails at these calls: the PUTs get these replies, and the last of
-/// them stands in a frame of its own.
+/// Four long PUTs, these requests, and QUIT, over a strip that fails at these calls: the requests get these replies, and
+/// the last PUT stands in a frame of its own.
 fn is_in_doubt(
     rt: &(impl Abort + AllocGlobal),
     device_fails: &[u64],
-    puts: &[&[u8]],
+    requests: &[&[u8]],
     replies: &[&[u8]],
 ) -> Result<(), Fail> {
     let long = long_put(rt, 65_535)?;
     let four = joined(rt, &[&long, &long, &long, &long])?;
-    let puts = joined(rt, puts)?;
-    let input = joined(rt, &[&four, &puts, QUIT])?;
+    let requests = joined(rt, requests)?;
+    let input = joined(rt, &[&four, &requests, QUIT])?;
     let replies = joined(rt, replies)?;
     let output = joined(rt, &[&done(0), &done(1), &done(2), &done(3), &replies, BYE])?;
     // 262,188 bytes in the first frame.
@@ -92,6 +95,7 @@ fn is_in_doubt(
 #[test]
 fn a_put_is_refused_while_a_frame_is_in_doubt(rt: HostRuntime) -> Result<(), Fail> {
     // The first frame's gate is written by call 9, and after a refusal by the next one.
-    is_in_doubt(&rt, &[9], &[PUT, PUT], &[FAULT_0, DONE_4])?;
+    let doubted = &[FAULT_0, ABSENT_4, DONE_4];
+    is_in_doubt(&rt, &[9], &[PUT, GET, PUT], doubted)?;
     is_in_doubt(&rt, &[9, 10], &[PUT, PUT, PUT], &[FAULT_0, FAULT_0, DONE_4])
 }

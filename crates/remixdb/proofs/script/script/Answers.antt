@@ -1,4 +1,4 @@
-use Rattle.std.proofs.Common.{ℕ, ◌+◌, ◌≡◌, ◌≤◌, Option, Some, refl, ap, sym, subst, ◌∙◌, arith, inl, inr}
+use Rattle.std.proofs.Common.{ℕ, ◌+◌, ◌-◌, ◌^◌, min, ◌≡◌, ◌≤◌, Option, Some, refl, ap, sym, subst, ◌∙◌, arith, inl, inr}
 use Rattle.link_model.specs.Faults.{Rose as LinkRose}
 use Rattle.remixdb.specs.Lent.{IsStripLent}
 use Rattle.remixdb.specs.Logged.{log_of, log_bytes}
@@ -8,7 +8,7 @@ use Rattle.session_core.specs.declared.session_end.SessionEnd.TheVariants.{Sourc
 use Rattle.remixdb.specs.Outcomes.{status_of, short_of, failed_of, least_of, outcome_by, IsCleanOfDevices, IsCleanOfStreams}
 use Rattle.remixdb.proofs.Rising.{risen_rose, risen_kept, streams_rose, streams_kept}
 use Rattle.remixdb.proofs.Scripting.{script_tells, refused_tells, fresh_of}
-use Rattle.remixdb.proofs.Failing.{session_told, session_later, session_tells, none_told, failed_rose, clean_kept, all_told, stream_ended, source_unclean, sink_unclean}
+use Rattle.remixdb.proofs.Failing.{session_told, session_later, session_tells, none_told, failed_rose, clean_kept, all_told, told_counted, stream_ended, source_unclean, sink_unclean}
 use Rattle.remixdb.proofs.script.script.Goals as goal
 
 pub give_back-requires-2-clause-lent : goal.give_back-requires-2-clause-lent
@@ -83,11 +83,13 @@ returns-clause-bytes g c = λ i b is_i is_b.
       tells = c.close-strip.ensures.strip.tells ∙ same ∙ c.make_ready-cleared.ensures.log.tells ∙ c.in-Ok.ensures.strip.tells;
       begins = λ t. c.make_ready-cleared.ensures.log.log ∙ c.in-Ok.ensures.log t;
       ends = c.close-strip.ensures.log;
+      stands = c.close-strip.ensures.stands;
       none = c.in-Ok.ensures.whole;
     })
     (sym c.strip-strip.ensures.bytes) c.give_back-2.ensures.bytes
     (c.give_back-2.ensures.streams.0 ∙ c.give_streams.ensures.input) (c.give_back-2.ensures.streams.1 ∙ c.give_streams.ensures.output)
     (none_told c.least_device.result _ _ c.least_device.ensures)
+    (λ number counted. subst (λ (n : ℕ). min (n + number) (2 ^ 64 - 1) ≤ g.H.Host.device_faults c.give_back-2.new.self) faults (told_counted _ _ _ _ _ _ number _ lent (omega (arith, faults, c.strip-strip.ensures.within, c.in-Ok.ensures.count)) c.make_ready-cleared.ensures.cause.later counted c.close-strip.ensures.cause.later c.give_back-2.ensures.faults))
     (λ number counted all below short. all_told c.close-strip.result.1 _ _ _ _ _ _ _ number _ lent (omega (arith, faults, c.strip-strip.ensures.within, c.in-Ok.ensures.count)) c.make_ready-cleared.ensures.cause.later counted c.close-strip.ensures.cause c.give_back-2.ensures.faults (all ∙ ap (λ (n : ℕ). n + number) (sym faults)) below short)
     (λ ended.
     let rose = streams_rose _ _ _ _ _ _ _ c.streams-source.ensures.lent (omega (arith, c.streams-source.ensures.source_within, c.streams-source.ensures.faults)) (omega (arith, c.streams-source.ensures.sink_within, c.streams-source.ensures.faults)) run.source_later run.sink_later c.give_streams.ensures.faults (elim ended [ inl is ↦ inl (run.source_failed is) | inr is ↦ inr (run.sink_failed is) ]) in
