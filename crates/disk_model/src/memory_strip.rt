@@ -1,4 +1,4 @@
-ghost use Rattle.std.specs.Prelude.{◌≡◌, ◌≤◌, ◌<◌, ◌+◌, ◌^◌, ◌∷◌, [], ℕ, List, length, IsOk, IsErr, IfOk, OnOk};
+ghost use Rattle.std.specs.Prelude.{◌≡◌, ◌≤◌, ◌<◌, ◌+◌, ◌^◌, ◌∷◌, [], ℕ, List, length, IsOk, IsErr, IfOk, IfErr, OnOk};
 ghost use Rattle.std.specs.Bool.{MatchBool};
 ghost use Rattle.std.specs.Option.{ForSome, option_to_list};
 
@@ -45,7 +45,7 @@ impl Model for MemoryStrip {
 }
 
 impl MemoryStrip {
-    ghost use Rattle.disk_model.specs.Causes.{HasCause};
+    ghost use Rattle.disk_model.specs.Causes.{HasCause, Draws};
     ghost use Rattle.disk_model.specs.Strips.{Only};
     ghost use Rattle.disk_model.specs.Events.{content_after};
     ghost use Rattle.disk_model.specs.MemoryState.{content_of, MayLeave, is_listed, FailsAsListed, Does};
@@ -105,6 +105,7 @@ impl MemoryStrip {
         ensures state { Does self.old self.new [] (option_to_list failure) result }
         ensures name { self.new.book.name ≡ self.old.book.name }
         ensures cause { HasCause self.old.book.name self.old.book.count self.new.book.count result }
+        ensures drawn { IfErr result (Draws self.old.book self.new.book) }
     {
         let listed = self.failing.as_slice().contains(&self.calls);
         self.calls = self.calls.saturating_add(1);
@@ -126,6 +127,7 @@ impl MemoryStrip {
         ensures short { OnOk result (at + length bytes.now < 2 ^ 63) }
         ensures name { self.new.book.name ≡ self.old.book.name }
         ensures cause { HasCause self.old.book.name self.old.book.count self.new.book.count result }
+        ensures drawn { IfErr result (Draws self.old.book self.new.book) }
     {
         let count = bytes.len() as u64;
         self.begin(alloc, Some(StripEvent::WriteFailed { at, count }))?;
@@ -147,6 +149,7 @@ impl MemoryStrip {
         ensures state { Does self.old self.new (CutTo at ∷ []) (CutFailed at ∷ []) result }
         ensures name { self.new.book.name ≡ self.old.book.name }
         ensures cause { HasCause self.old.book.name self.old.book.count self.new.book.count result }
+        ensures drawn { IfErr result (Draws self.old.book self.new.book) }
     {
         self.begin(alloc, Some(StripEvent::CutFailed { at }))?;
         self.events.push(StripEvent::CutTo { at })?;
@@ -160,6 +163,7 @@ impl MemoryStrip {
         ensures state { Does self.old self.new (Synced ∷ []) [] result }
         ensures name { self.new.book.name ≡ self.old.book.name }
         ensures cause { HasCause self.old.book.name self.old.book.count self.new.book.count result }
+        ensures drawn { IfErr result (Draws self.old.book self.new.book) }
     {
         self.begin(alloc, None)?;
         self.events.push(StripEvent::Synced)?;
@@ -169,7 +173,7 @@ impl MemoryStrip {
 
 impl Strip for MemoryStrip {
     ghost use Rattle.std.specs.Prelude.{◌+◌, ◌<◌, ◌^◌, ◌≤◌, true, take, OnErr};
-    ghost use Rattle.disk_model.specs.Causes.{HasCause};
+    ghost use Rattle.disk_model.specs.Causes.{HasCause, Draws};
     ghost use Rattle.disk_model.specs.Strips.{Holds, Fills, Torn, Cut, Follows, Narrows, Only};
     ghost use Rattle.disk_model.specs.MemoryState.{content_of, MayLeave, LeftSince, Passes, FailsAsListed, Does};
     ghost use Rattle.disk_model.specs.MemoryLaws.{memory_own_image, memory_counts_now, memory_only_now};
@@ -210,6 +214,7 @@ impl Strip for MemoryStrip {
         ensures book { self.new.book.name ≡ self.old.book.name }
         ensures calls { self.new.calls ≤ self.old.calls + 1 }
         ensures cause { HasCause self.old.book.name self.old.book.count self.new.book.count result }
+        ensures drawn { IfErr result (Draws self.old.book self.new.book) }
     {
         self.begin(alloc, None)?;
         Ok(self.bytes.len() as u64)
@@ -226,6 +231,7 @@ impl Strip for MemoryStrip {
         ensures book { self.new.book.name ≡ self.old.book.name }
         ensures calls { self.new.calls ≤ self.old.calls + 1 }
         ensures cause { HasCause self.old.book.name self.old.book.count self.new.book.count result }
+        ensures drawn { IfErr result (Draws self.old.book self.new.book) }
     {
         self.begin(alloc, None)?;
         Ok(read_from(&self.bytes, at, into))
@@ -244,6 +250,7 @@ impl Strip for MemoryStrip {
         ensures book { self.new.book.name ≡ self.old.book.name }
         ensures calls { self.new.calls ≤ self.old.calls + 1 }
         ensures cause { HasCause self.old.book.name self.old.book.count self.new.book.count result }
+        ensures drawn { IfErr result (Draws self.old.book self.new.book) }
     {
         self.write_or_fail(alloc, at, bytes)
     }
@@ -259,6 +266,7 @@ impl Strip for MemoryStrip {
         ensures book { self.new.book.name ≡ self.old.book.name }
         ensures calls { self.new.calls ≤ self.old.calls + 1 }
         ensures cause { HasCause self.old.book.name self.old.book.count self.new.book.count result }
+        ensures drawn { IfErr result (Draws self.old.book self.new.book) }
     {
         self.cut_or_fail(alloc, at)
     }
@@ -273,6 +281,7 @@ impl Strip for MemoryStrip {
         ensures book { self.new.book.name ≡ self.old.book.name }
         ensures calls { self.new.calls ≤ self.old.calls + 1 }
         ensures cause { HasCause self.old.book.name self.old.book.count self.new.book.count result }
+        ensures drawn { IfErr result (Draws self.old.book self.new.book) }
     {
         self.sync_or_fail(alloc)
     }

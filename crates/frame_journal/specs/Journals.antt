@@ -29,7 +29,7 @@ pub record IsFramed (staged : List ℕ) : Type 0 where
 abbrev pub standing_to : ℕ → List ℕ → List FrameValue
 standing_to end bytes = frames_of (take end bytes ++ CLOSED_GATE ∷ [])
 
--- the frames that stand in a journal's strip, without the staged one
+-- the frames that stand in a ready journal's strip, without the staged one; a journal that is not ready has none by it
 abbrev pub standing : {S : Type 0} → Ghosts S → JournalState S → List FrameValue
 standing strip journal = standing_to journal.end (strip.content journal.strip)
 

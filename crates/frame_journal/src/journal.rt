@@ -1,7 +1,7 @@
 //! The journal: what it promises before and after each call.
 ghost use Rattle.std.specs.Prelude.{◌≡◌, ◌+◌, ◌<◌, ◌≤◌, ◌^◌, true, false, nat_lt, [], ◌∷◌, length, is_ok, is_err, Ok, IfOk, OnOk, OnErr, IfErr};
 ghost use Rattle.frame_journal.specs.Devices.{SameStrip, CauseIn, OfBytes, KeepsBytes, IsSynced};
-ghost use Rattle.frame_journal.specs.Frames.{StandsFor, HasNoTorn, frame_size, end_of};
+ghost use Rattle.frame_journal.specs.Frames.{IsClosedAt, StandsFor, HasNoTorn, frame_size, end_of};
 ghost use Rattle.frame_journal.specs.JournalState.{is_ready, has_staged, is_in_doubt, is_written, closes_gate, staged_frame};
 ghost use Rattle.frame_journal.specs.Journals.{standing, with_staged, HasStanding, at_stake, HasAtStake, IsEmptied, StandsForNoneOr, StandsWithOrWithout};
 ghost use Rattle.frame_journal.specs.Causes.{OpeningCause};
@@ -51,6 +51,9 @@ impl<S: Strip> Journal<S> {
         ensures ready { IfOk result (λ found. is_ready found.0 ≡ nat_lt 0 (length found.1.items)) }
         ensures idle { IfOk result
             (λ found. (has_staged found.0 ≡ false) × (is_in_doubt found.0 ≡ false)) }
+        // A closed gate at place 0 is not written again: a first clear begins behind it.
+        ensures shut { IfOk result (λ found. OfBytes S.Strip strip
+            (λ bytes. IsClosedAt bytes 0 → closes_gate found.0 ≡ false)) }
 
         // A torn header is told exactly where one is; an open journal has none.
         ensures torn { IfErr result (λ refused. OfBytes S.Strip strip (TellsTorn refused.1)) }

@@ -1,7 +1,7 @@
 -- A failure leaves the bytes, and its cause is what the book answered.
 use Rattle.std.proofs.Common.{◌≡◌, Err, sym, ◌∙◌, ap, subst}
 use Rattle.disk_model.specs.Books.{BookState}
-use Rattle.disk_model.specs.Causes.{HasCause}
+use Rattle.disk_model.specs.Causes.{HasCause, Draws}
 use Rattle.disk_model.specs.Events.{replayed}
 use Rattle.disk_model.specs.MemoryState.{MemoryState}
 use Rattle.disk_model.specs.declared.memory_strip.MemoryStrip.TheInside.{Inside}
@@ -28,3 +28,11 @@ returns-clause-cause c =
     let same : c.match-failure-3.self-inside.book ≡ c.self.inside.book = elim c.match-failure-3.branch [ in-Some+in_ok-push w ↦ ap book w.self-inside-is | in_default w ↦ ap book w.self-inside-is ] in
     let P : BookState → Type 0 = λ b. HasCause b.name b.count c.fail.new.self.count (Err c.fail.result) in
     subst P (same ∙ ap seen c.self.view_is) (cause-fail c.match-failure-3.self-inside.book c.fail.new.self c.fail.result c.fail.ensures.later c.fail.ensures.drawn)
+
+pub returns-clause-drawn : goal.returns-clause-drawn
+returns-clause-drawn c =
+    let book : Inside → BookState = λ s. s.book in
+    let seen : MemoryState → BookState = λ s. s.book in
+    let same : c.match-failure-3.self-inside.book ≡ c.self.inside.book = elim c.match-failure-3.branch [ in-Some+in_ok-push w ↦ ap book w.self-inside-is | in_default w ↦ ap book w.self-inside-is ] in
+    let P : BookState → Type 0 = λ b. Draws b c.fail.new.self c.fail.result in
+    subst P (same ∙ ap seen c.self.view_is) c.fail.ensures.drawn

@@ -1,7 +1,7 @@
 use Rattle.std.proofs.Common.{arith, ap, sym, ◌∙◌, length}
 use Rattle.frame_journal.specs.Frames.{end_of}
 use Rattle.frame_journal.specs.Journals.{standing_to}
-use Rattle.frame_journal.proofs.OpeningLemmas.{holds-found, stages-found, standing-found, stake-found}
+use Rattle.frame_journal.proofs.OpeningLemmas.{holds-found, stages-found, standing-found, stake-found, shut-found}
 use Rattle.frame_journal.proofs.journal.Journal.open.Goals as goal
 
 pub invariant_of-journal : goal.invariant_of-journal
@@ -32,3 +32,8 @@ returns-in-Ok-clause-stake g c = λ told_after.
     let found = c.in-Ok.ensures.found told in
     rw (c.found_on.ensures.content told)
     (stake-found c.in-Ok.found.phase (g.S.Strip.content c.args.strip) c.in-Ok.found.end found.phase (c.in-Ok.ensures.numbers.end ∙ ap end_of found.frames) ∙ sym found.frames)
+
+pub returns-in-Ok-clause-shut : goal.returns-in-Ok-clause-shut
+returns-in-Ok-clause-shut g c = λ told.
+    let found = c.in-Ok.ensures.found told in
+    shut-found c.in-Ok.found.phase (g.S.Strip.content c.args.strip) c.in-Ok.found.end found.phase (c.in-Ok.ensures.numbers.end ∙ ap end_of found.frames)
