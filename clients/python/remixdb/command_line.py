@@ -3,13 +3,14 @@
 from __future__ import annotations
 
 import argparse
+import errno
 import os
 import signal
 import sys
-from typing import Iterator, List, Optional
+from typing import IO, Iterator, List, Optional
 
 from .connection import PROGRAM_VARIABLE, Connection, SessionEnded, program_path, start_program
-from .messages import REQUESTS, Message, NotAReply, Quit, Refusal
+from .messages import REQUESTS, Message, NotAReply, Quit, Refusal, Request
 from .text import ESCAPES_TOLD, BadLine, form_of, hex_of, line_of, read_words, request_of
 
 NAME = "remixdb-client"
@@ -30,8 +31,10 @@ A word in double quotes may hold spaces. In each word {ESCAPES_TOLD}.
 
 exit status:
   {ALL_ANSWERED}  each request was answered
-  {REFUSED}  a request was refused, or the session ended before a reply
-  {BAD_LINE}  a line was no request, and was not typed at a prompt; nothing after it was read
+  {REFUSED}  a request was refused, the session ended before a reply, the program could not be
+     started or ended badly, or the output had no room
+  {BAD_LINE}  a line was no request, and was not typed at a prompt; nothing after it was read. Or the
+     options are wrong
 
 {PROGRAM_VARIABLE} in the environment names another program to start."""
 
@@ -43,9 +46,17 @@ def told_requests() -> str:
 
 
 def complain(text: str) -> None:
-    """Prints a message for people, apart from the replies."""
-    sys.stderr.write(f"{NAME}: {text}\n")
-    sys.stderr.flush()
+    """Prints a message for people, apart from the replies. Where it has no room the status tells."""
+    try:
+        sys.stderr.write(f"{NAME}: {text}\n")
+        sys.stderr.flush()
+    except OSError:
+        drop(sys.stderr)
+
+
+def drop(stream: IO[str]) -> None:
+    """Lets go of a stream, so that nothing tries to write to it again on the way out."""
+    os.dup2(os.open(os.devnull, os.O_WRONLY), stream.fileno())
 
 
 def say(line: str) -> None:
@@ -67,9 +78,10 @@ def typed_lines() -> Iterator[str]:
 
 
 def piped_lines() -> Iterator[str]:
-    """The lines of standard input, each as soon as it is there."""
+    """The lines of standard input, each as soon as it is there. They end as on any system."""
     for line in sys.stdin:
-        yield line.rstrip("\r\n")
+        line = line[:-1] if line.endswith("\n") else line
+        yield line[:-1] if line.endswith("\r") else line
 
 
 class Session:
@@ -108,9 +120,9 @@ class Session:
         self._answer(request)
         return isinstance(request, Quit)
 
-    def _answer(self, request: Message) -> None:
+    def _answer(self, request: Request) -> None:
         try:
-            reply = self._store.ask(request)  # type: ignore[arg-type]
+            reply: Message = self._store.ask(request)
         except Refusal as refusal:
             self._was_refused = True
             reply = refusal
@@ -137,6 +149,10 @@ def read_arguments(arguments: Optional[List[str]]) -> argparse.Namespace:
 
 def prepare_streams() -> bool:
     """Makes text stand for bytes in UTF-8 in any locale, and tells whether there is a prompt."""
+    if sys.stderr is None:  # It was closed by whoever started this, as those below.
+        sys.stderr = open(os.devnull, "w")
+    if sys.stdin is None or sys.stdout is None:
+        raise OSError(errno.EBADF, os.strerror(errno.EBADF))
     for stream in (sys.stdin, sys.stdout, sys.stderr):
         stream.reconfigure(encoding="utf-8", errors="surrogateescape")  # type: ignore
     is_typed = sys.stdin.isatty() and sys.stdout.isatty()
@@ -155,11 +171,6 @@ def die_of(number: signal.Signals) -> int:
     return 128 + number
 
 
-def drop_output() -> None:
-    """Lets go of standard output, so that nothing tries to write to it again on the way out."""
-    os.dup2(os.open(os.devnull, os.O_WRONLY), 1)
-
-
 def run(shows_hex: bool) -> int:
     """A whole session with a program of its own. Answers the exit status."""
     is_typed = prepare_streams()
@@ -171,10 +182,10 @@ def run(shows_hex: bool) -> int:
     with store:
         try:
             status = Session(store, shows_hex, is_typed).run()
-        except KeyboardInterrupt:
-            store.interrupt()
+            ended = store.close()
+        except (KeyboardInterrupt, NotAReply):
+            store.interrupt()  # Else the wait for its end could be for ever.
             raise
-        ended = store.close()
     if ended:
         complain(f"the program ended with status {ended}")
         return status or REFUSED
@@ -183,8 +194,12 @@ def run(shows_hex: bool) -> int:
 
 def main(arguments: Optional[List[str]] = None) -> int:
     """Runs the command line, and answers its exit status."""
-    shows_hex = read_arguments(arguments).hex
     try:
+        try:
+            shows_hex = read_arguments(arguments).hex
+        finally:
+            if sys.stdout is not None:
+                sys.stdout.flush()  # A help that has no room is told below.
         return run(shows_hex)
     except (SessionEnded, NotAReply) as fault:
         complain(str(fault))
@@ -194,6 +209,7 @@ def main(arguments: Optional[List[str]] = None) -> int:
     except BrokenPipeError:
         return die_of(signal.SIGPIPE)
     except OSError as fault:
-        drop_output()
+        if sys.stdout is not None:
+            drop(sys.stdout)
         complain(f"cannot go on: {fault.strerror}")
         return REFUSED

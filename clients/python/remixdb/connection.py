@@ -37,6 +37,7 @@ class Connection:
     def __init__(self, replies: IO[bytes], requests: IO[bytes]) -> None:
         self._replies = replies
         self._requests = requests
+        self._has_ended = False
 
     def __enter__(self) -> Connection:
         return self
@@ -58,10 +59,14 @@ class Connection:
 
     def send_bytes(self, data: bytes) -> None:
         """Sends bytes as they are, whether or not they are a message."""
+        if self._has_ended:
+            return  # As below: receive tells it.
+        left = memoryview(data)
         try:
-            self._requests.write(data)
+            while left:  # A stream without a buffer may take a part.
+                left = left[self._requests.write(left) :]
             self._requests.flush()
-        except BrokenPipeError:
+        except ConnectionError:
             pass  # The other end is gone. What it replied before can be received, and then its end.
 
     def receive(self) -> Message:
@@ -76,19 +81,33 @@ class Connection:
 
     def close(self) -> Optional[int]:
         """Ends the session. Waits for a program that it started, and answers its status."""
+        self._has_ended = True
+        # Replies first: a program that waits for them to be read takes no requests, and to close
+        # these would wait until it takes what is left of them.
+        self._replies.close()
         try:
             self._requests.close()
-        except BrokenPipeError:
+        except ConnectionError:
             pass  # The other end went first, and what was left for it is of no use.
-        # Closed before the wait, since a program whose replies nobody reads would wait as well.
-        self._replies.close()
         return self._wait()
 
     def _take(self, count: int) -> bytes:
-        taken = self._replies.read(count)
-        if len(taken) < count:
-            raise SessionEnded(self.close())
+        taken = b""
+        while len(taken) < count:  # A stream without a buffer gives what is there.
+            piece = self._next_piece(count - len(taken))
+            if not piece:
+                raise SessionEnded(self.close())
+            taken += piece
         return taken
+
+    def _next_piece(self, count: int) -> bytes:
+        """Some of the next bytes, at most so many, and none where the session has ended."""
+        if self._has_ended:
+            return b""
+        try:
+            return self._replies.read(count)
+        except ConnectionError:
+            return b""  # The other end left with requests unread.
 
     def _wait(self) -> Optional[int]:
         return None
@@ -108,7 +127,8 @@ class Program(Connection):
 
     def interrupt(self) -> None:
         """Interrupts the program, and what it started in its turn, as a terminal would."""
-        os.killpg(self._child.pid, signal.SIGINT)
+        if self._child.poll() is None:
+            os.killpg(self._child.pid, signal.SIGINT)
 
     def _wait(self) -> Optional[int]:
         return self._child.wait()

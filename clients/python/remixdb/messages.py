@@ -63,6 +63,9 @@ class Bytes:
 
     def test(self, data: bytes) -> None:
         """Refuses what the store would refuse, since a refusal there ends the session."""
+        # The length of other types counts letters or elements, and a message would lie about it.
+        if not isinstance(data, bytes):
+            raise TypeError(f"a {self.noun} is bytes, and this one is {type(data).__name__}")
         if not self.least <= len(data) <= self.most:
             raise ValueError(
                 f"a {self.noun} has {self.least} to {self.most} bytes, and this one has {len(data)}"

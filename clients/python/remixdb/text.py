@@ -41,7 +41,7 @@ def read_word(line: str, place: int) -> Tuple[bytes, int]:
     """The word that begins at the place, and the place behind it."""
     is_quoted = line[place] == '"'
     place += is_quoted
-    word = b""
+    word = bytearray()
     while place < len(line):
         letter = line[place]
         if letter == "\\":
@@ -50,9 +50,9 @@ def read_word(line: str, place: int) -> Tuple[bytes, int]:
         elif is_quoted and letter == '"':
             if line[place + 1 : place + 2] not in ("", *SPACES):
                 raise BadLine("a space is wanted behind a closing quote")
-            return word, place + 1
+            return bytes(word), place + 1
         elif not is_quoted and letter in SPACES:
-            return word, place
+            return bytes(word), place
         elif letter == '"':
             raise BadLine(r'a quote inside a word is written \"')
         else:
@@ -60,7 +60,7 @@ def read_word(line: str, place: int) -> Tuple[bytes, int]:
             place += 1
     if is_quoted:
         raise BadLine("a closing quote is wanted")
-    return word, place
+    return bytes(word), place
 
 
 def read_words(line: str) -> List[bytes]:

@@ -1,5 +1,6 @@
 """Builds the program, runs every test against it, and counts them on a line of its own."""
 
+import signal
 import subprocess
 import sys
 import unittest
@@ -8,10 +9,35 @@ from pathlib import Path
 from remixdb.connection import program_path
 
 
+TEST_SECONDS = 120
+"""How long a test may take. One that waits for what never comes is an error, and the next one runs."""
+
+
+class Result(unittest.TextTestResult):
+    """Counts the tests that failed, each once, and ends those that hang."""
+
+    def startTest(self, test: unittest.TestCase) -> None:
+        super().startTest(test)
+        # Again and again, since what a test leaves on its way out may hang as well.
+        signal.setitimer(signal.ITIMER_REAL, TEST_SECONDS, 5)
+
+    def stopTest(self, test: unittest.TestCase) -> None:
+        signal.setitimer(signal.ITIMER_REAL, 0)
+        super().stopTest(test)
+
+
+def give_up(*_: object) -> None:
+    raise TimeoutError(f"the test took more than {TEST_SECONDS} seconds")
+
+
 def is_built() -> bool:
     """Runs a session without input, so that no test has to wait for a build."""
     words = [program_path(), "script", "mem"]
-    return subprocess.run(words, stdin=subprocess.DEVNULL).returncode == 0
+    try:
+        return subprocess.run(words, stdin=subprocess.DEVNULL).returncode == 0
+    except OSError as fault:
+        print(fault, file=sys.stderr)
+        return False
 
 
 def main() -> int:
@@ -21,8 +47,11 @@ def main() -> int:
         return 1
     here = Path(__file__).resolve().parent
     tests = unittest.defaultTestLoader.discover(str(here), top_level_dir=str(here.parent))
-    result = unittest.TextTestRunner(verbosity=1).run(tests)
-    failed = len(result.failures) + len(result.errors) + len(result.unexpectedSuccesses)
+    signal.signal(signal.SIGALRM, give_up)
+    result = unittest.TextTestRunner(verbosity=1, resultclass=Result).run(tests)
+    faults = [test for test, _ in result.failures + result.errors] + result.unexpectedSuccesses
+    # The parts of a test that failed count as that test.
+    failed = len({getattr(test, "test_case", test).id() for test in faults})
     passed = max(0, result.testsRun - failed - len(result.skipped))
     print(f"{passed} passed, {failed} failed", flush=True)
     return 1 if failed else 0

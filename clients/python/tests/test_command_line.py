@@ -111,6 +111,17 @@ class Trouble(unittest.TestCase):
         self.assertEqual((status, replies), (1, ""))
         self.assertIn("the program ended with status 6", notes)
 
+    def test_what_is_no_reply_ends_it(self) -> None:
+        fake = self.fake_program("echo HTTP/1.1 200 OK; cat >/dev/null\n")
+        status, replies, notes = run_client("get a\n", **fake)
+        self.assertEqual((status, replies), (1, ""))
+        self.assertEqual(notes, "remixdb-client: no reply has a body of 1213486160 bytes\n")
+
+    def test_a_program_that_ends_badly_is_told(self) -> None:
+        fake = self.fake_program("cat >/dev/null; exit 4\n")
+        told = "remixdb-client: the program ended with status 4\n"
+        self.assertEqual(run_client("", **fake), (1, "", told))
+
     def test_a_refusal_is_a_reply_and_a_status(self) -> None:
         refusal, bye = r"\000\000\000\001\345", r"\000\000\000\001\211"
         fake = self.fake_program(f"printf '{refusal}{bye}'; cat >/dev/null\n")

@@ -41,6 +41,12 @@ class Sessions(unittest.TestCase):
             for number in range(100):
                 self.assertEqual(store.receive(), Done(number))
 
+    def test_the_longest_key_and_value_come_back(self) -> None:
+        key, value = b"k" * 1_024, b"v" * 65_535
+        with start_program() as store:
+            store.ask(Put(key, value))
+            self.assertEqual(store.ask(Get(key)), Value(1, value))
+
     def test_a_close_without_a_quit_ends_well(self) -> None:
         store = start_program()
         self.assertEqual(store.ask(Get(b"a")), Absent(0))

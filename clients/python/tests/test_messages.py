@@ -56,6 +56,15 @@ class Replies(unittest.TestCase):
         self.assertIsInstance(self.read("e5"), OutOfMemory)
         self.assertIsInstance(bad, Refusal)
 
+    def test_a_code_that_is_not_known_is_told(self) -> None:
+        told = str(BadMessage(5, 99))
+        self.assertEqual(told, "bad message at byte 5, code 99: this client does not know the code")
+
+    def test_fields_are_bytes(self) -> None:
+        for other in ("a", bytearray(b"a"), [97]):
+            with self.subTest(other=other), self.assertRaises(TypeError):
+                Get(other)  # type: ignore[arg-type]
+
     def test_what_is_no_reply_is_told(self) -> None:
         for body in ("01", "81", "81 00", "82 0000000000000001 00000002 61", "89 00", ""):
             with self.subTest(body=body), self.assertRaises(NotAReply):
