@@ -1,5 +1,7 @@
 -- The order of keys: total, and alike only at one key. To know: `total`, `same_key`.
-use Rattle.std.proofs.Common.{◌≡◌, ℕ, List, refl, ◌∙◌}
+use Rattle.std.proofs.Common.{◌≡◌, ℕ, true, List, refl, ◌∙◌}
+use Rattle.std.specs.Ordering.{is_lt, is_gt, is_eq}
+use Rattle.std.specs.declared.cmp.Ordering.{Ordering}
 use Rattle.std.specs.Cmp.{IsTotalOrder}
 use Rattle.std.specs.FinMap.{slice_cmp-IsAntisymmetric, nat_cmp-IsAntisymmetric}
 use Rattle.std.specs.declared.cmp.Ordering.TheVariants.{Less, Equal, Greater}
@@ -26,3 +28,20 @@ turned_greater a b h = total.antisymm b a ∙ rw h refl
 
 pub turned_equal : (a b : List ℕ) → key_cmp a b ≡ Equal → key_cmp b a ≡ Equal
 turned_equal a b h = total.antisymm b a ∙ rw h refl
+
+-- ---- what the tests of an order tell
+
+pub less_from_test : (r : Ordering) → is_lt r ≡ true → r ≡ Less
+less_from_test Less h = refl
+less_from_test Equal h = absurd cc
+less_from_test Greater h = absurd cc
+
+pub greater_from_test : (r : Ordering) → is_gt r ≡ true → r ≡ Greater
+greater_from_test Less h = absurd cc
+greater_from_test Equal h = absurd cc
+greater_from_test Greater h = refl
+
+pub equal_from_test : (r : Ordering) → is_eq r ≡ true → r ≡ Equal
+equal_from_test Less h = absurd cc
+equal_from_test Equal h = refl
+equal_from_test Greater h = absurd cc

@@ -11,25 +11,8 @@ use Rattle.rdb_base.specs.Laws.{left_by}
 use Rattle.rdb_base.specs.declared.row.Row.{Row}
 use Rattle.rdb_base.specs.declared.change.Change.{Change}
 use Rattle.rdb_base.specs.declared.change.Change.TheVariants.{Put, Del}
-use Rattle.rdb_base.proofs.KeyOrder.{total, same_key, key_cmp-same, turned_less, turned_greater}
+use Rattle.rdb_base.proofs.KeyOrder.{total, same_key, key_cmp-same, turned_less, turned_greater, less_from_test, greater_from_test}
 use Rattle.rdb_base.proofs.Lists.{all-weaker, all-append, all-filter, all-filter_passes}
-
--- ---- what the tests of an order tell
-
-less_from_test : (r : Ordering) → is_lt r ≡ true → r ≡ Less
-less_from_test Less h = refl
-less_from_test Equal h = absurd cc
-less_from_test Greater h = absurd cc
-
-greater_from_test : (r : Ordering) → is_gt r ≡ true → r ≡ Greater
-greater_from_test Less h = absurd cc
-greater_from_test Equal h = absurd cc
-greater_from_test Greater h = refl
-
-equal_from_test : (r : Ordering) → is_eq r ≡ true → r ≡ Equal
-equal_from_test Less h = absurd cc
-equal_from_test Equal h = refl
-equal_from_test Greater h = absurd cc
 
 -- ---- rising keys
 
@@ -72,15 +55,15 @@ IsRising-changed rows key (Put value) h =
     let high = IsRising-filter (λ (row : Row). is_gt (key_cmp row.key key)) rows h in
     let row : Row = record { key = key; value = value } in
     let first : IsBelowAll (rows_above key rows) row = all-weaker (Above key) (λ (y : Row). key_cmp key y.key ≡ Less) (λ y gt. turned_greater y.key key gt) (rows_above key rows) (all_above key rows) in
-    let behind = below_above key (rows_above key rows) (all_above key rows) in
+    let later = below_above key (rows_above key rows) (all_above key rows) in
     IsRising-append (rows_below key rows) (row ∷ rows_above key rows) low (first, high)
-    (all-weaker (Below key) (IsBelowAll (row ∷ rows_above key rows)) (λ x lt. (lt, behind x lt)) (rows_below key rows) (all_below key rows))
+    (all-weaker (Below key) (IsBelowAll (row ∷ rows_above key rows)) (λ x lt. (lt, later x lt)) (rows_below key rows) (all_below key rows))
 IsRising-changed rows key Del h =
     let low = IsRising-filter (λ (row : Row). is_lt (key_cmp row.key key)) rows h in
     let high = IsRising-filter (λ (row : Row). is_gt (key_cmp row.key key)) rows h in
-    let behind = below_above key (rows_above key rows) (all_above key rows) in
+    let later = below_above key (rows_above key rows) (all_above key rows) in
     IsRising-append (rows_below key rows) (rows_above key rows) low high
-    (all-weaker (Below key) (IsBelowAll (rows_above key rows)) behind (rows_below key rows) (all_below key rows))
+    (all-weaker (Below key) (IsBelowAll (rows_above key rows)) later (rows_below key rows) (all_below key rows))
 
 -- ---- the value at a key
 

@@ -1,21 +1,19 @@
 -- Byte strings compare as the numbers that their first bytes spell, and then as the rest. To know: `words_then`.
-use Rattle.std.proofs.Common.{◌≡◌, ℕ, zero, suc, ◌+◌, ◌*◌, ◌<◌, ◌≤◌, List, [], ◌∷◌, length, take, drop, get_or, refl, sym, ap, ◌∙◌, arith}
+use Rattle.std.proofs.Common.{◌≡◌, ℕ, zero, suc, ◌+◌, ◌*◌, ◌<◌, ◌≤◌, List, [], ◌∷◌, length, take, drop, refl, sym, ap, ◌∙◌, arith}
 use Rattle.std.specs.Ordering.{nat_cmp, ordering_then, MatchOrdering}
 use Rattle.std.specs.Cmp.{nat_cmp_is, ranks}
 use Rattle.std.specs.Int.{w64, from_be_bytes}
 use Rattle.std.specs.declared.cmp.Ordering.{Ordering}
 use Rattle.std.specs.declared.cmp.Ordering.TheVariants.{Less, Equal, Greater}
+use Rattle.rdb_base.specs.Bytes.{AreBytes}
 use Rattle.rdb_base.specs.Order.{key_cmp}
 
-abbrev AreBytes : List ℕ → Type 0
-AreBytes xs = (i : ℕ) → get_or xs i 0 < 256
-
--- the number that bytes spell behind n, the first in the highest place
+-- the number that bytes spell after n, the first in the highest place
 abbrev spelled : ℕ → List ℕ → ℕ
 spelled n [] = n
 spelled n (b ∷ bs) = spelled (n * 256 + b) bs
 
--- what is behind it does not catch up with a greater front
+-- what follows does not catch up with a greater front
 spelled-rises : (k n m : ℕ) (xs ys : List ℕ) → k ≤ length xs → k ≤ length ys → AreBytes xs → n < m → spelled n (take k xs) < spelled m (take k ys)
 spelled-rises zero n m xs ys p q g l = l
 spelled-rises (suc k) n m [] ys p q g l = absurd (omega arith)

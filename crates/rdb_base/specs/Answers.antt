@@ -6,7 +6,7 @@ use Rattle.rdb_base.specs.declared.key_error.KeyError.TheVariants as keys
 use Rattle.rdb_base.specs.declared.value_error.ValueError.{ValueError}
 use Rattle.rdb_base.specs.declared.value_error.ValueError.TheVariants as values
 
--- a key of just these bytes; refused with their length exactly where it is no key's; want of memory is free
+-- a key of just these bytes; refused with their length exactly where it is no key's; memory may run out at any time
 abbrev pub KeyAnswer : Result (List ℕ) KeyError → List ℕ → Type 0
 KeyAnswer (Ok key) bytes = (key ≡ bytes) × IsKeyLength (length bytes)
 KeyAnswer (Err (keys.BadKey len)) bytes = (len ≡ length bytes) × ¬ IsKeyLength (length bytes)

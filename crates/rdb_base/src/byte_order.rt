@@ -9,7 +9,7 @@ use std::cmp::Ordering;
 const WORD: usize = 8;
 
 /// The order by unsigned bytes, a proper prefix first.
-pub(crate) fn order(mine: &[u8], theirs: &[u8]) -> Ordering
+pub fn compare_bytes(mine: &[u8], theirs: &[u8]) -> Ordering
     ensures { result ≡ key_cmp mine.now theirs.now }
 {
     if mine.len() < WORD || theirs.len() < WORD {
@@ -20,7 +20,7 @@ pub(crate) fn order(mine: &[u8], theirs: &[u8]) -> Ordering
     if my_word == their_word {
         let (_, mine) = mine.split_at(WORD);
         let (_, theirs) = theirs.split_at(WORD);
-        return order(mine, theirs);
+        return compare_bytes(mine, theirs);
     }
     if my_word < their_word {
         Ordering::Less

@@ -6,6 +6,7 @@ ghost use Rattle.rdb_base.specs.Lengths.{IsValueLength};
 ghost use Rattle.rdb_base.specs.Answers.{ValueAnswer};
 
 use crate::NoMemory;
+use crate::exact_copy::exact_copy;
 use crate::limits::VALUE_MAX;
 use crate::value_error::ValueError;
 use std::alloc::Global;
@@ -18,14 +19,14 @@ pub struct Value {
 }
 
 impl Model for Value {
-    ghost use Rattle.std.specs.Prelude.{ℕ, List, length};
+    ghost use Rattle.std.specs.Prelude.{ℕ, ◌≤◌, List, length, vec_capacity};
     ghost use Rattle.rdb_base.specs.Lengths.{IsValueLength};
 
     ghost Value = { List ℕ };
 
     ghost view = { λ v. v.bytes.items };
 
-    ghost invariant = { λ v. IsValueLength (length v.bytes.items) };
+    ghost invariant = { λ v. IsValueLength (length v.bytes.items) × (vec_capacity v.bytes ≤ length v.bytes.items) };
 }
 
 impl Value {
@@ -37,7 +38,7 @@ impl Value {
         if len > VALUE_MAX {
             return Err(ValueError::BadValue { len });
         }
-        match Vec::from_slice(alloc, bytes) {
+        match exact_copy(alloc, bytes) {
             Ok(bytes) => Ok(Value { bytes }),
             Err(_) => Err(ValueError::Memory),
         }
@@ -56,7 +57,7 @@ impl Value {
         ensures { IfOk result (λ value. value ≡ self.now) }
     {
         Ok(Value {
-            bytes: Vec::from_slice(alloc, self.bytes.as_slice())?,
+            bytes: exact_copy(alloc, self.bytes.as_slice())?,
         })
     }
 }
