@@ -1,3 +1,3 @@
 mod CauseLemmas
-mod MemoryCalls
-mod Replays
+mod FileLemmas
+mod MarkLemmas

@@ -1,8 +1,15 @@
 pub mod Books
+pub mod Calls
 pub mod Causes
-pub mod Events
-pub mod MemoryLaws
+pub mod Crashes
+pub mod Facts
+pub mod FileLaws
+pub mod FileState
 pub mod MemoryState
+pub mod PastLaws
+pub mod Pasts
 pub mod Piles
+pub mod Shelves
 pub mod SteadyState
 pub mod Strips
+pub mod Told

@@ -1,55 +1,46 @@
-ghost use Rattle.std.specs.Prelude.{◌≡◌, ◌≤◌, ◌<◌, ◌+◌, ◌^◌, ◌∷◌, [], ℕ, List, length, IsOk, IsErr, IfOk, IfErr, OnOk};
-ghost use Rattle.std.specs.Bool.{MatchBool};
-ghost use Rattle.std.specs.Option.{ForSome, option_to_list};
+ghost use Rattle.std.specs.Prelude.{◌≡◌, ◌≤◌, IfOk, ◌∷◌, [], ◌++◌};
 
-use crate::bytes::{read_from, write_over};
-use crate::devices::LAST_STRIP;
-use crate::piece::Piece;
-use crate::strip_event::StripEvent;
+use crate::bytes::read_from;
+use crate::change::Change;
+use crate::limits::STRIP_MAX;
+use crate::memory_file::MemoryFile;
+use crate::past::Past;
 use crate::{DeviceError, FaultBook, Strip};
 use std::alloc::{AllocError, Global};
 use std::marker::Model;
 
-/// A strip in memory. It tells its content and its crash images, which are replayed from the bytes
-/// that it had at first and what it has gone through since. It keeps both, so that it takes up as
-/// much memory as all that was ever written to it.
+/// A strip in memory. It tells its content and its crash images: it keeps the bytes of its last sync,
+/// and which ranges changed since then.
 ///
 /// The calls with the numbers of a list fail, and no other: such a call changes nothing of the
 /// content, and of a write or a cut the crash images are as after one without a sync.
 #[derive(Drop)]
 pub struct MemoryStrip {
     book: FaultBook,
-    first: Vec<u8>,
-    events: Vec<StripEvent>,
-    bytes: Vec<u8>,
+    file: MemoryFile,
+    past: Past<MemoryFile>,
     failing: Vec<u64>,
     calls: u64,
 }
 
 impl Model for MemoryStrip {
-    ghost use Rattle.std.specs.Prelude.{◌≡◌};
-    ghost use Rattle.disk_model.specs.Events.{replayed};
     ghost use Rattle.disk_model.specs.MemoryState.{MemoryState};
 
     ghost Value = { MemoryState };
 
     ghost view = { λ s. record {
       book = s.book;
-      first = s.first.items;
-      events = s.events.items;
+      file = s.file;
+      past = s.past;
       failing = s.failing.items;
       calls = s.calls;
     } };
-
-    ghost invariant = { λ s. s.bytes.items ≡ replayed s.events.items s.first.items };
 }
 
 impl MemoryStrip {
-    ghost use Rattle.disk_model.specs.Causes.{HasCause, Draws};
-    ghost use Rattle.disk_model.specs.Strips.{Only};
-    ghost use Rattle.disk_model.specs.Events.{content_after};
-    ghost use Rattle.disk_model.specs.MemoryState.{content_of, MayLeave, is_listed, FailsAsListed, Does};
-    ghost use Rattle.disk_model.specs.declared.strip_event.StripEvent.TheVariants.{Written, WriteFailed, CutTo, CutFailed, Synced};
+    ghost use Rattle.disk_model.specs.Crashes.{Only};
+    ghost use Rattle.disk_model.specs.FileState.{MayLeave, crash_image, file_of};
+    ghost use Rattle.disk_model.specs.MemoryState.{is_listed, begun};
 
     /// A strip with these bytes, all of them synced. The calls with the numbers in `failing` fail,
     /// counted from 0 over all calls. It may answer `AllocError` at any time.
@@ -59,9 +50,9 @@ impl MemoryStrip {
         bytes: Vec<u8>,
         failing: Vec<u64>,
     ) -> Result<MemoryStrip, AllocError>
-        requires { device ≤ LAST_STRIP }
-        ensures content { IfOk result (λ strip. content_of strip ≡ bytes.items) }
-        ensures synced { IfOk result (λ strip. Only bytes.items (MayLeave strip)) }
+        requires { device ≤ STRIP_MAX }
+        ensures file { IfOk result (λ strip. strip.file ≡ file_of bytes.items) }
+        ensures past { IfOk result (λ strip. strip.past ≡ []) }
         ensures failing { IfOk result (λ strip. strip.failing ≡ failing.items) }
         ensures calls { IfOk result (λ strip. strip.calls ≡ 0) }
         ensures device { IfOk result (λ strip. strip.book.name.device ≡ device) }
@@ -69,9 +60,8 @@ impl MemoryStrip {
     {
         Ok(MemoryStrip {
             book: FaultBook::new(alloc, device)?,
-            first: Vec::from_slice(alloc, &bytes)?,
-            events: Vec::new(alloc),
-            bytes,
+            file: MemoryFile::new(alloc, bytes)?,
+            past: Past::new(),
             failing,
             calls: 0,
         })
@@ -79,9 +69,9 @@ impl MemoryStrip {
 
     /// Its bytes.
     pub fn as_bytes(&self) -> &[u8]
-        ensures { result.now ≡ content_of self.now }
+        ensures { result.now ≡ self.now.file.bytes }
     {
-        &self.bytes
+        self.file.as_bytes()
     }
 
     /// How many calls were made.
@@ -98,86 +88,55 @@ impl MemoryStrip {
         self.book.count()
     }
 
-    /// Counts a call. Where it is to fail, keeps what the failure may leave, and fails.
-    fn begin(&mut self, alloc: Global, failure: Option<StripEvent>) -> Result<(), DeviceError>
-        requires { ForSome failure (λ event. (content : List ℕ) → content_after event content ≡ content) }
-        ensures listed { MatchBool (is_listed self.old) (IsErr result) (IsOk result) }
-        ensures state { Does self.old self.new [] (option_to_list failure) result }
-        ensures name { self.new.book.name ≡ self.old.book.name }
-        ensures cause { HasCause self.old.book.name self.old.book.count self.new.book.count result }
-        ensures drawn { IfErr result (Draws self.old.book self.new.book) }
+    /// The strip after a crash now, which leaves one of its crash images. Of the bytes and the length
+    /// since the last sync there is left, by `pick mod 4`:
+    ///
+    /// | pick | What a crash leaves |
+    /// |---|---|
+    /// | 0 | the bytes of the last sync |
+    /// | 1 | the bytes that a read gives |
+    /// | 2 | those, with FF in place of each that was or was to be written since |
+    /// | 3 | those, with A5 in place of each that was or was to be written since |
+    ///
+    /// All is synced then. No call is to fail, and calls count from 0. The book goes on. It takes no memory.
+    pub fn crash(mut self, pick: u64) -> MemoryStrip
+        ensures content { result.file.bytes ≡ crash_image pick self.file }
+        ensures image { MayLeave self.file result.file.bytes }
+        ensures synced { Only result.file.bytes (MayLeave result.file) }
+        ensures book { result.book ≡ self.book }
+        ensures past { result.past ≡ self.past ++ self.file ∷ [] }
+        ensures failing { result.failing ≡ [] }
+        ensures calls { result.calls ≡ 0 }
     {
+        self.past.push(&self.file);
+        self.file.crash(pick);
+        self.failing.clear();
+        self.calls = 0;
+        self
+    }
+
+    /// Counts a call, and tells whether it is to fail.
+    fn begin(&mut self) -> bool
+        ensures listed { result ≡ is_listed self.old }
+        ensures state { self.new ≡ begun self.old }
+    {
+        self.past.push(&self.file);
         let listed = self.failing.as_slice().contains(&self.calls);
         self.calls = self.calls.saturating_add(1);
-        if !listed {
-            return Ok(());
-        }
-        if let Some(event) = failure {
-            self.events.push(event)?;
-        }
-        Err(self.book.fail(alloc))
-    }
-
-    /// `write_at`, told by what it adds to the events.
-    fn write_or_fail(&mut self, alloc: Global, at: u64, bytes: &[u8]) -> Result<(), DeviceError>
-        requires { at ≤ length (content_of self.old) }
-        ensures listed { FailsAsListed self.old result }
-        ensures state { Does self.old self.new
-            (Written at bytes.now ∷ []) (WriteFailed at (length bytes.now) ∷ []) result }
-        ensures short { OnOk result (at + length bytes.now < 2 ^ 63) }
-        ensures name { self.new.book.name ≡ self.old.book.name }
-        ensures cause { HasCause self.old.book.name self.old.book.count self.new.book.count result }
-        ensures drawn { IfErr result (Draws self.old.book self.new.book) }
-    {
-        let count = bytes.len() as u64;
-        self.begin(alloc, Some(StripEvent::WriteFailed { at, count }))?;
-        let place = at as usize;
-        self.bytes
-            .reserve((place + bytes.len()).saturating_sub(self.bytes.len()))?;
-        let piece = Piece::copy_of(alloc, bytes)?;
-        self.events.push(StripEvent::Written { at, piece })?;
-
-        // From here on nothing is refused.
-        write_over(&mut self.bytes, place, bytes).unwrap();
-        Ok(())
-    }
-
-    /// `cut`, told by what it adds to the events.
-    fn cut_or_fail(&mut self, alloc: Global, at: u64) -> Result<(), DeviceError>
-        requires { at ≤ length (content_of self.old) }
-        ensures listed { FailsAsListed self.old result }
-        ensures state { Does self.old self.new (CutTo at ∷ []) (CutFailed at ∷ []) result }
-        ensures name { self.new.book.name ≡ self.old.book.name }
-        ensures cause { HasCause self.old.book.name self.old.book.count self.new.book.count result }
-        ensures drawn { IfErr result (Draws self.old.book self.new.book) }
-    {
-        self.begin(alloc, Some(StripEvent::CutFailed { at }))?;
-        self.events.push(StripEvent::CutTo { at })?;
-        self.bytes.truncate(at as usize);
-        Ok(())
-    }
-
-    /// `sync`, told by what it adds to the events.
-    fn sync_or_fail(&mut self, alloc: Global) -> Result<(), DeviceError>
-        ensures listed { FailsAsListed self.old result }
-        ensures state { Does self.old self.new (Synced ∷ []) [] result }
-        ensures name { self.new.book.name ≡ self.old.book.name }
-        ensures cause { HasCause self.old.book.name self.old.book.count self.new.book.count result }
-        ensures drawn { IfErr result (Draws self.old.book self.new.book) }
-    {
-        self.begin(alloc, None)?;
-        self.events.push(StripEvent::Synced)?;
-        Ok(())
+        listed
     }
 }
 
 impl Strip for MemoryStrip {
-    ghost use Rattle.std.specs.Prelude.{◌+◌, ◌<◌, ◌^◌, ◌≤◌, true, take, OnErr};
-    ghost use Rattle.disk_model.specs.Causes.{HasCause, Draws};
-    ghost use Rattle.disk_model.specs.Strips.{Holds, Fills, Torn, Cut, Follows, Narrows, Only};
-    ghost use Rattle.disk_model.specs.MemoryState.{content_of, MayLeave, LeftSince, Passes, FailsAsListed, Does};
-    ghost use Rattle.disk_model.specs.MemoryLaws.{memory_own_image, memory_counts_now, memory_only_now};
-    ghost use Rattle.disk_model.specs.declared.strip_event.StripEvent.TheVariants.{Written, WriteFailed, CutTo, CutFailed, Synced};
+    ghost use Rattle.std.specs.Prelude.{◌+◌, ◌<◌, ◌^◌, length, take, true, OnOk, OnErr};
+    ghost use Rattle.disk_model.specs.Crashes.{Follows, Narrows, Only};
+    ghost use Rattle.disk_model.specs.Strips.{Holds, Fills, Torn, Cut};
+    ghost use Rattle.disk_model.specs.FileState.{MayLeave, changed, file_written, file_cut, file_of};
+    ghost use Rattle.disk_model.specs.Pasts.{LeftSince};
+    ghost use Rattle.disk_model.specs.MemoryState.{FailsAsListed, Goes, IsMemoryCall};
+    ghost use Rattle.std.proofs.Common.{inl, refl};
+    ghost use Rattle.disk_model.specs.PastLaws.{since-earlier, since-now};
+    ghost use Rattle.disk_model.specs.declared.change.Change.TheVariants.{Written, CutTo};
 
     ghost book = { λ s. s.book.name };
 
@@ -187,102 +146,103 @@ impl Strip for MemoryStrip {
 
     ghost tells = { λ s. true };
 
-    ghost content = { λ s. content_of s };
+    ghost content = { λ s. s.file.bytes };
 
     ghost tells_images = { λ s. true };
 
-    ghost may_leave = { λ s c. MayLeave s c };
+    ghost may_leave = { λ s c. MayLeave s.file c };
 
-    ghost moment = { λ s. length s.events };
+    ghost moment = { λ s. length s.past };
 
-    ghost left_since = { λ s t c. LeftSince s t c };
+    ghost left_since = { λ s t c. LeftSince MayLeave s.past s.file t c };
 
-    ghost own_image = { λ s told images. memory_own_image s };
+    ghost own_image = { λ s told images. inl refl };
 
-    ghost counts_now = { λ s t c earlier now. memory_counts_now s t c earlier now };
+    ghost counts_now = { λ s t c earlier now. inl now };
 
-    ghost only_now = { λ s c left. memory_only_now s c left };
+    ghost counts_earlier = { λ s t u c earlier left. since-earlier MayLeave s.past s.file t u c earlier left };
+
+    ghost only_now = { λ s c left. since-now MayLeave s.past s.file c left };
 
     fn len(&mut self, alloc: Global) -> Result<u64, DeviceError>
         ensures listed { FailsAsListed self.old result }
-        ensures state { Does self.old self.new [] [] result }
-        ensures length { IfOk result (λ len. len ≡ length (content_of self.old)) }
+        ensures state { Goes self.old self.new self.old.file self.old.file result }
+        ensures length { IfOk result (λ len. len ≡ length self.old.file.bytes) }
         ensures short { IfOk result (λ len. len < 2 ^ 63) }
-        ensures content { content_of self.new ≡ content_of self.old }
-        ensures images { Narrows (MayLeave self.old) (MayLeave self.new) }
-        ensures time { Passes self.old self.new }
-        ensures book { self.new.book.name ≡ self.old.book.name }
-        ensures calls { self.new.calls ≤ self.old.calls + 1 }
-        ensures cause { HasCause self.old.book.name self.old.book.count self.new.book.count result }
-        ensures drawn { IfErr result (Draws self.old.book self.new.book) }
+        ensures content { self.new.file.bytes ≡ self.old.file.bytes }
+        ensures images { Narrows (MayLeave self.old.file) (MayLeave self.new.file) }
+        ensures call { IsMemoryCall self.old self.new result }
     {
-        self.begin(alloc, None)?;
-        Ok(self.bytes.len() as u64)
+        if self.begin() {
+            return Err(self.book.fail(alloc));
+        }
+        Ok(self.file.as_bytes().len() as u64)
     }
 
     fn read(&mut self, alloc: Global, at: u64, into: &mut [u8]) -> Result<usize, DeviceError>
         ensures listed { FailsAsListed self.old result }
-        ensures state { Does self.old self.new [] [] result }
-        ensures filled { IfOk result (λ count. Fills (content_of self.old) at count into.old into.new) }
+        ensures state { Goes self.old self.new self.old.file self.old.file result }
+        ensures filled { IfOk result (λ count. Fills self.old.file.bytes at count into.old into.new) }
         ensures fits { IfOk result (λ count. count ≤ length into.old) }
-        ensures content { content_of self.new ≡ content_of self.old }
-        ensures images { Narrows (MayLeave self.old) (MayLeave self.new) }
-        ensures time { Passes self.old self.new }
-        ensures book { self.new.book.name ≡ self.old.book.name }
-        ensures calls { self.new.calls ≤ self.old.calls + 1 }
-        ensures cause { HasCause self.old.book.name self.old.book.count self.new.book.count result }
-        ensures drawn { IfErr result (Draws self.old.book self.new.book) }
+        ensures content { self.new.file.bytes ≡ self.old.file.bytes }
+        ensures images { Narrows (MayLeave self.old.file) (MayLeave self.new.file) }
+        ensures call { IsMemoryCall self.old self.new result }
     {
-        self.begin(alloc, None)?;
-        Ok(read_from(&self.bytes, at, into))
+        if self.begin() {
+            return Err(self.book.fail(alloc));
+        }
+        Ok(read_from(self.file.as_bytes(), at, into))
     }
 
     fn write_at(&mut self, alloc: Global, at: u64, bytes: &[u8]) -> Result<(), DeviceError>
-        requires { at ≤ length (content_of self.old) }
+        requires { at ≤ length self.old.file.bytes }
         ensures listed { FailsAsListed self.old result }
-        ensures state { Does self.old self.new
-            (Written at bytes.now ∷ []) (WriteFailed at (length bytes.now) ∷ []) result }
-        ensures written { OnOk result (Holds (content_of self.old) at bytes.now (content_of self.new)) }
-        ensures refused { OnErr result (content_of self.new ≡ content_of self.old) }
+        ensures state { Goes self.old self.new (file_written at bytes.now self.old.file)
+            (changed (Written at (length bytes.now)) self.old.file) result }
+        ensures written { OnOk result (Holds self.old.file.bytes at bytes.now self.new.file.bytes) }
+        ensures refused { OnErr result (self.new.file.bytes ≡ self.old.file.bytes) }
         ensures short { OnOk result (at + length bytes.now < 2 ^ 63) }
-        ensures images { Follows (Torn at (length bytes.now)) (MayLeave self.old) (MayLeave self.new) }
-        ensures time { Passes self.old self.new }
-        ensures book { self.new.book.name ≡ self.old.book.name }
-        ensures calls { self.new.calls ≤ self.old.calls + 1 }
-        ensures cause { HasCause self.old.book.name self.old.book.count self.new.book.count result }
-        ensures drawn { IfErr result (Draws self.old.book self.new.book) }
+        ensures images { Follows (Torn at (length bytes.now)) (MayLeave self.old.file) (MayLeave self.new.file) }
+        ensures call { IsMemoryCall self.old self.new result }
     {
-        self.write_or_fail(alloc, at, bytes)
+        let count = bytes.len() as u64;
+        if self.begin() {
+            self.file.fail(Change::Written { at, count })?;
+            return Err(self.book.fail(alloc));
+        }
+        self.file.write(at, bytes)?;
+        Ok(())
     }
 
     fn cut(&mut self, alloc: Global, at: u64) -> Result<(), DeviceError>
-        requires { at ≤ length (content_of self.old) }
+        requires { at ≤ length self.old.file.bytes }
         ensures listed { FailsAsListed self.old result }
-        ensures state { Does self.old self.new (CutTo at ∷ []) (CutFailed at ∷ []) result }
-        ensures cut { OnOk result (content_of self.new ≡ take at (content_of self.old)) }
-        ensures refused { OnErr result (content_of self.new ≡ content_of self.old) }
-        ensures images { Follows (Cut at) (MayLeave self.old) (MayLeave self.new) }
-        ensures time { Passes self.old self.new }
-        ensures book { self.new.book.name ≡ self.old.book.name }
-        ensures calls { self.new.calls ≤ self.old.calls + 1 }
-        ensures cause { HasCause self.old.book.name self.old.book.count self.new.book.count result }
-        ensures drawn { IfErr result (Draws self.old.book self.new.book) }
+        ensures state { Goes self.old self.new (file_cut at self.old.file) (changed (CutTo at) self.old.file) result }
+        ensures cut { OnOk result (self.new.file.bytes ≡ take at self.old.file.bytes) }
+        ensures refused { OnErr result (self.new.file.bytes ≡ self.old.file.bytes) }
+        ensures images { Follows (Cut at) (MayLeave self.old.file) (MayLeave self.new.file) }
+        ensures call { IsMemoryCall self.old self.new result }
     {
-        self.cut_or_fail(alloc, at)
+        if self.begin() {
+            self.file.fail(Change::CutTo { at })?;
+            return Err(self.book.fail(alloc));
+        }
+        self.file.cut(at)?;
+        Ok(())
     }
 
     fn sync(&mut self, alloc: Global) -> Result<(), DeviceError>
         ensures listed { FailsAsListed self.old result }
-        ensures state { Does self.old self.new (Synced ∷ []) [] result }
-        ensures durable { OnOk result (Only (content_of self.old) (MayLeave self.new)) }
-        ensures content { content_of self.new ≡ content_of self.old }
-        ensures images { Narrows (MayLeave self.old) (MayLeave self.new) }
-        ensures time { Passes self.old self.new }
-        ensures book { self.new.book.name ≡ self.old.book.name }
-        ensures calls { self.new.calls ≤ self.old.calls + 1 }
-        ensures cause { HasCause self.old.book.name self.old.book.count self.new.book.count result }
-        ensures drawn { IfErr result (Draws self.old.book self.new.book) }
+        ensures state { Goes self.old self.new (file_of self.old.file.bytes) self.old.file result }
+        ensures durable { OnOk result (Only self.old.file.bytes (MayLeave self.new.file)) }
+        ensures content { self.new.file.bytes ≡ self.old.file.bytes }
+        ensures images { Narrows (MayLeave self.old.file) (MayLeave self.new.file) }
+        ensures call { IsMemoryCall self.old self.new result }
     {
-        self.sync_or_fail(alloc)
+        if self.begin() {
+            return Err(self.book.fail(alloc));
+        }
+        self.file.sync();
+        Ok(())
     }
 }

@@ -37,7 +37,10 @@ impl SteadyStrip {
 }
 
 impl Strip for SteadyStrip {
-    ghost use Rattle.std.specs.Prelude.{true, false};
+    ghost use Rattle.std.specs.Prelude.{true, false, ◌+◌, ◌^◌, ◌<◌, ◌≤◌, length, take, IsOk, IfOk, IfErr, OnOk, OnErr};
+    ghost use Rattle.disk_model.specs.Strips.{Holds, Fills};
+    ghost use Rattle.disk_model.specs.SteadyState.{IsSteadyCall};
+    ghost use Rattle.disk_model.specs.declared.device_error.DeviceError.TheVariants.{Memory};
 
     ghost book = { λ s. s.book };
 
@@ -61,26 +64,56 @@ impl Strip for SteadyStrip {
 
     ghost counts_now = { λ s t c le none. none };
 
+    ghost counts_earlier = { λ s t u c le none. none };
+
     ghost only_now = { λ s c none. none };
 
-    fn len(&mut self, _alloc: Global) -> Result<u64, DeviceError> {
+    fn len(&mut self, _alloc: Global) -> Result<u64, DeviceError>
+        ensures ok { IsOk result }
+        ensures length { IfOk result (λ len. len ≡ length self.old.bytes) }
+        ensures short { IfOk result (λ len. len < 2 ^ 63) }
+        ensures content { self.new.bytes ≡ self.old.bytes }
+        ensures call { IsSteadyCall self.old self.new result }
+    {
         Ok(self.bytes.len() as u64)
     }
 
-    fn read(&mut self, _alloc: Global, at: u64, into: &mut [u8]) -> Result<usize, DeviceError> {
+    fn read(&mut self, _alloc: Global, at: u64, into: &mut [u8]) -> Result<usize, DeviceError>
+        ensures ok { IsOk result }
+        ensures filled { IfOk result (λ count. Fills self.old.bytes at count into.old into.new) }
+        ensures fits { IfOk result (λ count. count ≤ length into.old) }
+        ensures content { self.new.bytes ≡ self.old.bytes }
+        ensures call { IsSteadyCall self.old self.new result }
+    {
         Ok(read_from(&self.bytes, at, into))
     }
 
-    fn write_at(&mut self, _alloc: Global, at: u64, bytes: &[u8]) -> Result<(), DeviceError> {
+    fn write_at(&mut self, _alloc: Global, at: u64, bytes: &[u8]) -> Result<(), DeviceError>
+        requires { at ≤ length self.old.bytes }
+        ensures written { OnOk result (Holds self.old.bytes at bytes.now self.new.bytes) }
+        ensures refused { OnErr result (self.new.bytes ≡ self.old.bytes) }
+        ensures memory { IfErr result (λ e. e ≡ Memory) }
+        ensures short { OnOk result (at + length bytes.now < 2 ^ 63) }
+        ensures call { IsSteadyCall self.old self.new result }
+    {
         Ok(write_over(&mut self.bytes, at as usize, bytes)?)
     }
 
-    fn cut(&mut self, _alloc: Global, at: u64) -> Result<(), DeviceError> {
+    fn cut(&mut self, _alloc: Global, at: u64) -> Result<(), DeviceError>
+        requires { at ≤ length self.old.bytes }
+        ensures ok { IsOk result }
+        ensures cut { OnOk result (self.new.bytes ≡ take at self.old.bytes) }
+        ensures call { IsSteadyCall self.old self.new result }
+    {
         self.bytes.truncate(at as usize);
         Ok(())
     }
 
-    fn sync(&mut self, _alloc: Global) -> Result<(), DeviceError> {
+    fn sync(&mut self, _alloc: Global) -> Result<(), DeviceError>
+        ensures ok { IsOk result }
+        ensures content { self.new.bytes ≡ self.old.bytes }
+        ensures call { IsSteadyCall self.old self.new result }
+    {
         Ok(())
     }
 }

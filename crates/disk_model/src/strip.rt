@@ -1,7 +1,8 @@
 ghost use Rattle.std.specs.Prelude.{◌≡◌, ℕ, ◌+◌, ◌^◌, ◌<◌, ◌≤◌, Bool, IsTrue, List, length, take, IfOk, OnOk, OnErr};
 ghost use Rattle.disk_model.specs.Books.{BookName};
-ghost use Rattle.disk_model.specs.Causes.{HasCause};
-ghost use Rattle.disk_model.specs.Strips.{IfTold, Holds, Fills, Torn, Cut, Follows, Narrows, Only, Elapses};
+ghost use Rattle.disk_model.specs.Calls.{IfTold, IsCall};
+ghost use Rattle.disk_model.specs.Crashes.{Follows, Narrows, Only};
+ghost use Rattle.disk_model.specs.Strips.{Holds, Fills, Torn, Cut};
 
 use crate::DeviceError;
 use std::alloc::Global;
@@ -49,13 +50,7 @@ pub trait Strip {
         ensures short { IfOk result (λ len. len < 2 ^ 63) }
         ensures content { IfTold (tells self.old) (content self.new ≡ content self.old) }
         ensures images { Narrows (may_leave self.old) (may_leave self.new) }
-        ensures time { Elapses (moment self.old) (moment self.new)
-            (left_since self.old) (left_since self.new) (may_leave self.new) }
-        ensures book { book self.new ≡ book self.old }
-        ensures told { (tells self.new ≡ tells self.old)
-            × (tells_images self.new ≡ tells_images self.old) }
-        ensures calls { calls self.new ≤ calls self.old + 1 }
-        ensures cause { HasCause (book self.old) (count self.old) (count self.new) result };
+        ensures call { IsCall book count calls tells tells_images moment left_since may_leave self.old self.new result };
 
     /// Fills `into` from place `at`, and answers with how many bytes. Fewer than `into` has come
     /// only at the end, and past the end none.
@@ -65,13 +60,7 @@ pub trait Strip {
         ensures fits { IfOk result (λ count. count ≤ length into.old) }
         ensures content { IfTold (tells self.old) (content self.new ≡ content self.old) }
         ensures images { Narrows (may_leave self.old) (may_leave self.new) }
-        ensures time { Elapses (moment self.old) (moment self.new)
-            (left_since self.old) (left_since self.new) (may_leave self.new) }
-        ensures book { book self.new ≡ book self.old }
-        ensures told { (tells self.new ≡ tells self.old)
-            × (tells_images self.new ≡ tells_images self.old) }
-        ensures calls { calls self.new ≤ calls self.old + 1 }
-        ensures cause { HasCause (book self.old) (count self.old) (count self.new) result };
+        ensures call { IsCall book count calls tells tells_images moment left_since may_leave self.old self.new result };
 
     /// Writes `bytes` from place `at` on, over what is there and past the end.
     fn write_at(&mut self, alloc: Global, at: u64, bytes: &[u8]) -> Result<(), DeviceError>
@@ -82,13 +71,7 @@ pub trait Strip {
             (Torn at (length bytes.now) (content self.old) (content self.new))) }
         ensures short { OnOk result (at + length bytes.now < 2 ^ 63) }
         ensures images { Follows (Torn at (length bytes.now)) (may_leave self.old) (may_leave self.new) }
-        ensures time { Elapses (moment self.old) (moment self.new)
-            (left_since self.old) (left_since self.new) (may_leave self.new) }
-        ensures book { book self.new ≡ book self.old }
-        ensures told { (tells self.new ≡ tells self.old)
-            × (tells_images self.new ≡ tells_images self.old) }
-        ensures calls { calls self.new ≤ calls self.old + 1 }
-        ensures cause { HasCause (book self.old) (count self.old) (count self.new) result };
+        ensures call { IsCall book count calls tells tells_images moment left_since may_leave self.old self.new result };
 
     /// Leaves the first `at` bytes.
     fn cut(&mut self, alloc: Global, at: u64) -> Result<(), DeviceError>
@@ -98,13 +81,7 @@ pub trait Strip {
         ensures refused { OnErr result (IfTold (tells self.old)
             (Cut at (content self.old) (content self.new))) }
         ensures images { Follows (Cut at) (may_leave self.old) (may_leave self.new) }
-        ensures time { Elapses (moment self.old) (moment self.new)
-            (left_since self.old) (left_since self.new) (may_leave self.new) }
-        ensures book { book self.new ≡ book self.old }
-        ensures told { (tells self.new ≡ tells self.old)
-            × (tells_images self.new ≡ tells_images self.old) }
-        ensures calls { calls self.new ≤ calls self.old + 1 }
-        ensures cause { HasCause (book self.old) (count self.old) (count self.new) result };
+        ensures call { IsCall book count calls tells tells_images moment left_since may_leave self.old self.new result };
 
     /// After it, a crash leaves what a read gives.
     fn sync(&mut self, alloc: Global) -> Result<(), DeviceError>
@@ -112,19 +89,16 @@ pub trait Strip {
             (Only (content self.old) (may_leave self.new))) }
         ensures content { IfTold (tells self.old) (content self.new ≡ content self.old) }
         ensures images { Narrows (may_leave self.old) (may_leave self.new) }
-        ensures time { Elapses (moment self.old) (moment self.new)
-            (left_since self.old) (left_since self.new) (may_leave self.new) }
-        ensures book { book self.new ≡ book self.old }
-        ensures told { (tells self.new ≡ tells self.old)
-            × (tells_images self.new ≡ tells_images self.old) }
-        ensures calls { calls self.new ≤ calls self.old + 1 }
-        ensures cause { HasCause (book self.old) (count self.old) (count self.new) result };
+        ensures call { IsCall book count calls tells tells_images moment left_since may_leave self.old self.new result };
 
     /// The content is one of the crash images.
     ghost own_image: { (s : Self) → IsTrue (tells s) → IsTrue (tells_images s) → may_leave s (content s) };
 
     /// This moment is one of those since an earlier one.
     ghost counts_now: { (s : Self) (t : ℕ) (c : List ℕ) → t ≤ moment s → may_leave s c → left_since s t c };
+
+    /// What counts since a moment counts since each earlier one.
+    ghost counts_earlier: { (s : Self) (t u : ℕ) (c : List ℕ) → t ≤ u → left_since s u c → left_since s t c };
 
     /// Since this moment there is no other.
     ghost only_now: { (s : Self) (c : List ℕ) → left_since s (moment s) c → may_leave s c };
