@@ -1,9 +1,9 @@
-//! The two phases of a clear: the gate at place 0 is closed, then what is behind it is cut off.
+//! The two phases of a clear: the gate at place 0 is closed, then what is after it is cut off.
 ghost use Rattle.std.specs.Prelude.{◌≡◌, true, false, [], ◌∷◌, take, OnOk, OnErr, if◌then◌else◌};
-ghost use Rattle.frame_journal.specs.Devices.{SameStrip, CauseIn, OfBytes, IsSynced};
+ghost use Rattle.frame_journal.specs.Devices.{SameStrip, CauseIn, OfBytes, IsSynced, OfCrashes, Spans};
 ghost use Rattle.frame_journal.specs.Frames.{StandsFor};
 ghost use Rattle.frame_journal.specs.JournalState.{is_ready, has_staged, closes_gate};
-ghost use Rattle.frame_journal.specs.Journals.{standing, covered, HasAtStake, IsEmptied, StandsForNoneOr};
+ghost use Rattle.frame_journal.specs.Journals.{standing, covered, HasSurvivors, IsEmptied, StandsForNoneOr};
 ghost use Rattle.frame_journal.specs.declared.phase.Phase.TheVariants.{Fresh, Shut, Ready};
 
 use crate::Journal;
@@ -21,7 +21,7 @@ impl<S: Strip> Journal<S> {
         ensures end { self.new.end ≡ 0 }
         ensures payload { self.new.payload ≡ [] }
         ensures own { is_ready self.old ≡ true →
-            HasAtStake S.Strip self.old (standing S.Strip self.old) }
+            HasSurvivors S.Strip self.old (standing S.Strip self.old) }
     {
         if let Phase::Ready = self.phase {
             // With no frame, the gate at place 0 is closed and synced: a write there could open an
@@ -35,7 +35,7 @@ impl<S: Strip> Journal<S> {
         }
     }
 
-    /// The first phase of a clear: no frame stands behind a closed gate.
+    /// The first phase of a clear: no frame stands after a closed gate.
     pub(crate) fn close_first_gate(&mut self, alloc: Global) -> Result<(), DeviceError>
         requires { self.old.phase ≡ Fresh }
 
@@ -48,6 +48,10 @@ impl<S: Strip> Journal<S> {
         ensures end { self.new.end ≡ 0 }
         ensures either { OfBytes S.Strip self.new.strip
             (StandsForNoneOr (covered (S.content self.old.strip))) }
+        ensures synced { OnOk result (IsSynced S.Strip self.new.strip) }
+        ensures crash { OfCrashes S.Strip self.old.strip self.new.strip
+            (StandsForNoneOr (covered (S.content self.old.strip))) }
+        ensures time { Spans S.Strip self.old.strip self.new.strip }
 
         ensures strip { SameStrip S.Strip 2 self.old.strip self.new.strip }
         ensures cause { CauseIn S.Strip self.old.strip self.new.strip result }
@@ -58,8 +62,8 @@ impl<S: Strip> Journal<S> {
         Ok(())
     }
 
-    /// The second phase of a clear: what is behind the closed gate is gone.
-    pub(crate) fn cut_behind_gate(&mut self, alloc: Global) -> Result<(), DeviceError>
+    /// The second phase of a clear: what is after the closed gate is gone.
+    pub(crate) fn cut_after_gate(&mut self, alloc: Global) -> Result<(), DeviceError>
         requires { self.old.phase ≡ Shut }
 
         ensures ready { OnOk result (self.new.phase ≡ Ready) }
@@ -70,6 +74,8 @@ impl<S: Strip> Journal<S> {
             (OfBytes S.Strip self.new.strip (λ bytes. bytes ≡ take 1 (S.content self.old.strip))) }
         ensures synced { OnOk result (IsSynced S.Strip self.new.strip) }
         ensures none { OfBytes S.Strip self.new.strip (StandsFor []) }
+        ensures crash { OfCrashes S.Strip self.old.strip self.new.strip (StandsFor []) }
+        ensures time { Spans S.Strip self.old.strip self.new.strip }
 
         ensures strip { SameStrip S.Strip 2 self.old.strip self.new.strip }
         ensures cause { CauseIn S.Strip self.old.strip self.new.strip result }

@@ -1,9 +1,10 @@
 //! The journal: what it promises before and after each call.
 ghost use Rattle.std.specs.Prelude.{◌≡◌, ◌+◌, ◌<◌, ◌≤◌, ◌^◌, true, false, nat_lt, [], ◌∷◌, length, is_ok, is_err, Ok, IfOk, OnOk, OnErr, IfErr};
-ghost use Rattle.frame_journal.specs.Devices.{SameStrip, CauseIn, OfBytes, KeepsBytes, IsSynced};
+ghost use Rattle.disk_model.specs.Crashes.{Narrows};
+ghost use Rattle.frame_journal.specs.Devices.{SameStrip, CauseIn, OfBytes, KeepsBytes, IsSynced, OfImages, OfCrashes, Spans};
 ghost use Rattle.frame_journal.specs.Frames.{IsClosedAt, StandsFor, HasNoTorn, frame_size, end_of};
 ghost use Rattle.frame_journal.specs.JournalState.{is_ready, has_staged, is_in_doubt, is_written, closes_gate, staged_frame};
-ghost use Rattle.frame_journal.specs.Journals.{standing, with_staged, HasStanding, at_stake, HasAtStake, IsEmptied, StandsForNoneOr, StandsWithOrWithout};
+ghost use Rattle.frame_journal.specs.Journals.{standing, with_staged, HasStanding, survivors, HasSurvivors, IsEmptied, Leaves, StandsForNoneOr, StandsWithOrWithout};
 ghost use Rattle.frame_journal.specs.Causes.{OpeningCause};
 ghost use Rattle.frame_journal.specs.Openings.{TellsTorn, strip_of};
 ghost use Rattle.frame_journal.specs.declared.phase.Phase.TheVariants.{Fresh, Shut, Ready, Staged, Body, Gate};
@@ -23,7 +24,7 @@ use std::mem;
 pub struct Journal<S: Strip> {
     pub(crate) strip: S,
     pub(crate) phase: Phase,
-    // The place of the next gate, and what is to be written behind it.
+    // The place of the next gate, and what is to be written after it.
     pub(crate) end: u64,
     pub(crate) staged: Vec<u8>,
 }
@@ -36,22 +37,22 @@ impl<S: Strip> Model for Journal<S> {
 
     ghost view = { λ j. record { strip = j.strip; phase = j.phase; end = j.end; payload = unframed j.staged.items } };
 
-    ghost invariant = { λ j. IsSound (S.tells j.strip) (S.content j.strip) j.phase j.end j.staged.items };
+    ghost invariant = { λ j. IsSound (S.tells j.strip) (S.content j.strip) (S.may_leave j.strip) j.phase j.end j.staged.items };
 }
 
 impl<S: Strip> Journal<S> {
     /// Opens a strip as a journal: syncs it, reads it once, and writes nothing. The frames come in
-    /// order. A strip without a frame opens, too, and is not ready until a clear answered Ok.
+    /// order. A strip without a frame opens, too, and is not ready until a clear succeeded.
     pub fn open(alloc: Global, mut strip: S) -> Result<(Journal<S>, Vec<Frame>), (S, JournalError)>
         // What the strip stands for, and how far the journal has come.
         ensures frames { IfOk result (λ found. OfBytes S.Strip strip (StandsFor found.1.items)) }
         ensures standing { IfOk result (λ found. HasStanding S.Strip found.0 found.1.items) }
-        ensures stake { IfOk result (λ found. HasAtStake S.Strip found.0 found.1.items) }
+        ensures survivors { IfOk result (λ found. HasSurvivors S.Strip found.0 found.1.items) }
         ensures end { IfOk result (λ found. found.0.end ≡ end_of found.1.items) }
         ensures ready { IfOk result (λ found. is_ready found.0 ≡ nat_lt 0 (length found.1.items)) }
         ensures idle { IfOk result
             (λ found. (has_staged found.0 ≡ false) × (is_in_doubt found.0 ≡ false)) }
-        // A closed gate at place 0 is not written again: a first clear begins behind it.
+        // A closed gate at place 0 is not written again: a first clear begins after it.
         ensures shut { IfOk result (λ found. OfBytes S.Strip strip
             (λ bytes. IsClosedAt bytes 0 → closes_gate found.0 ≡ false)) }
 
@@ -62,10 +63,13 @@ impl<S: Strip> Journal<S> {
         // The strip is given back as it was, synced.
         ensures strip { SameStrip S.Strip 3 strip (strip_of result) }
         ensures content { KeepsBytes S.Strip strip (strip_of result) }
+        ensures images { Narrows (S.may_leave strip) (S.may_leave (strip_of result)) }
+        ensures time { Spans S.Strip strip (strip_of result) }
         ensures synced { OnOk result (IsSynced S.Strip (strip_of result)) }
         ensures cause { IfErr result
             (λ refused. OpeningCause (S.book strip) (S.count strip) (S.count refused.0) refused.1) }
         ensures kept { IfOk result (λ found. S.count found.0.strip ≡ S.count strip) }
+        ensures leaves { IfOk result (λ found. Leaves S.Strip found.0) }
     {
         match found_on(alloc, &mut strip) {
             Ok(found) => {
@@ -83,14 +87,14 @@ impl<S: Strip> Journal<S> {
         }
     }
 
-    /// Whether a frame was found or a clear has answered Ok.
+    /// Whether a frame was found or a clear succeeded.
     pub fn ready(&self) -> bool
         ensures { result ≡ is_ready self.now }
     {
         !matches!(self.phase, Phase::Fresh | Phase::Shut)
     }
 
-    /// Whether a settle of the staged frame was refused.
+    /// Whether a settle of the staged frame failed.
     pub fn in_doubt(&self) -> bool
         ensures { result ≡ is_in_doubt self.now }
     {
@@ -111,12 +115,12 @@ impl<S: Strip> Journal<S> {
         self.end
     }
 
-    /// Makes the journal empty and ready, by at most four device calls. After a refusal it is not
+    /// Makes the journal empty and ready, by at most four device calls. If it fails, the journal is not
     /// ready, and the next clear goes on from the phase that failed.
     pub fn clear(&mut self, alloc: Global) -> Result<(), DeviceError>
         requires { has_staged self.old ≡ false }
 
-        // At Ok one byte is left, a closed gate: 00, or the byte that was found there.
+        // If it succeeds, one byte is left, a closed gate: 00, or the byte that was found there.
         ensures emptied { OnOk result (OfBytes S.Strip self.new.strip IsEmptied) }
         ensures stands { OnOk result (OfBytes S.Strip self.new.strip (StandsFor [])) }
         ensures written { closes_gate self.old ≡ true →
@@ -127,18 +131,25 @@ impl<S: Strip> Journal<S> {
         ensures standing { HasStanding S.Strip self.new [] }
         ensures idle { has_staged self.new ≡ false }
 
-        // Whatever it answers, it leaves no frame, or those at stake: a ready journal's own.
+        // Whatever it answers, it leaves no frame, or those that may survive: a ready journal's own.
         ensures either { OfBytes S.Strip self.new.strip
-            (StandsForNoneOr (at_stake S.Strip self.old)) }
+            (StandsForNoneOr (survivors S.Strip self.old)) }
         ensures own { is_ready self.old ≡ true →
-            HasAtStake S.Strip self.old (standing S.Strip self.old) }
+            HasSurvivors S.Strip self.old (standing S.Strip self.old) }
 
-        // A refused one goes on from the phase that failed, with the same frames at stake.
+        // At each moment within it a crash leaves no frame, or those that may survive; if it succeeds, none.
+        ensures crash { OfCrashes S.Strip self.old.strip self.new.strip
+            (StandsForNoneOr (survivors S.Strip self.old)) }
+        ensures left { OnOk result (OfImages S.Strip self.new.strip (StandsFor [])) }
+        ensures leaves { Leaves S.Strip self.new }
+        ensures time { Spans S.Strip self.old.strip self.new.strip }
+
+        // If it fails, the next one goes on from the phase that failed, with the same frames.
         ensures goes_on { OnErr result (closes_gate self.new ≡ true → closes_gate self.old ≡ true) }
         ensures first { OnErr result (closes_gate self.new ≡ true →
             S.calls self.new.strip ≤ S.calls self.old.strip + 2) }
         ensures same { OnErr result (closes_gate self.new ≡ true →
-            HasAtStake S.Strip self.new (at_stake S.Strip self.old)) }
+            HasSurvivors S.Strip self.new (survivors S.Strip self.old)) }
 
         ensures strip { SameStrip S.Strip 4 self.old.strip self.new.strip }
         ensures second { closes_gate self.old ≡ false →
@@ -149,12 +160,14 @@ impl<S: Strip> Journal<S> {
         if let Phase::Fresh = self.phase {
             self.close_first_gate(alloc)?;
         }
-        self.cut_behind_gate(alloc)
+        let result = self.cut_after_gate(alloc);
+        self.leaves();
+        result
     }
 
     /// Stages a frame with this payload. It makes room for the length and the next gate in the
     /// payload's own memory, and no device call. Where the journal's end would pass 2^63, the answer
-    /// is want of memory, too.
+    /// is out of memory, too.
     pub fn stage(&mut self, _alloc: Global, payload: Vec<u8>) -> Result<(), (Vec<u8>, AllocError)>
         requires ready { is_ready self.old ≡ true }
         requires idle { has_staged self.old ≡ false }
@@ -168,6 +181,7 @@ impl<S: Strip> Journal<S> {
         ensures end { self.new.end ≡ self.old.end }
         ensures refused { IfErr result (λ refused. refused.0.items ≡ payload.items) }
         ensures same { OnErr result (self.new ≡ self.old) }
+        ensures leaves { Leaves S.Strip self.new }
     {
         if END_MAX - self.end < (FRAMING + payload.len()) as u64 {
             return Err((payload, AllocError));
@@ -188,12 +202,12 @@ impl<S: Strip> Journal<S> {
     }
 
     /// Makes the staged frame stand, once, by at most four device calls, and takes no memory of its
-    /// own. After a refusal the frame is kept and in doubt, and the next settle goes on from the
-    /// phase that failed. With nothing staged it answers Ok and makes no call.
+    /// own. If it fails, the frame is kept and in doubt, and the next settle goes on from the
+    /// phase that failed. With nothing staged it succeeds and makes no call.
     pub fn settle(&mut self, alloc: Global) -> Result<(), DeviceError>
         ensures nothing { has_staged self.old ≡ false → (result ≡ Ok tt) × (self.new ≡ self.old) }
 
-        // At Ok the frame stands behind those from before.
+        // If it succeeds, the frame stands after those from before.
         ensures settled { OnOk result (has_staged self.old ≡ true →
             OfBytes S.Strip self.new.strip (StandsFor (with_staged S.Strip self.old))) }
         ensures standing { OnOk result (has_staged self.old ≡ true →
@@ -205,7 +219,15 @@ impl<S: Strip> Journal<S> {
             IsSynced S.Strip self.new.strip) }
         ensures ready { is_ready self.new ≡ is_ready self.old }
 
-        // A refused one leaves the frames from before, with the new one or without, and keeps it.
+        // At each moment within it a crash leaves the frames from before, with the new one or without.
+        ensures crash { has_staged self.old ≡ true →
+            OfCrashes S.Strip self.old.strip self.new.strip (StandsWithOrWithout S.Strip self.old) }
+        ensures left { OnOk result (has_staged self.old ≡ true →
+            OfImages S.Strip self.new.strip (StandsFor (with_staged S.Strip self.old))) }
+        ensures leaves { Leaves S.Strip self.new }
+        ensures time { Spans S.Strip self.old.strip self.new.strip }
+
+        // If it fails, it leaves the frames from before, with the new one or without, and keeps it.
         ensures doubt { is_in_doubt self.new ≡ is_err result }
         ensures either { has_staged self.old ≡ true →
             OfBytes S.Strip self.new.strip (StandsWithOrWithout S.Strip self.old) }
@@ -224,16 +246,30 @@ impl<S: Strip> Journal<S> {
             Phase::Fresh | Phase::Shut | Phase::Ready => Ok(()),
             Phase::Staged | Phase::Body => {
                 self.write_body(alloc)?;
-                self.open_gate(alloc)
+                let result = self.open_gate(alloc);
+                self.leaves();
+                result
             }
-            Phase::Gate => self.open_gate(alloc),
+            Phase::Gate => {
+                let result = self.open_gate(alloc);
+                self.leaves();
+                result
+            }
         }
+    }
+
+    /// Hands out what the journal's strip stands for, as a read gives it and in each crash image. It does nothing.
+    pub fn leaves(&self)
+        ensures { Leaves S.Strip self.now }
+    {
+        let _ = &self.strip;
     }
 
     /// The strip as it stands. Where the journal is ready and nothing is staged, it stands for the journal's frames.
     pub fn into_strip(self) -> S
         ensures strip { result ≡ self.strip }
         ensures stands { is_ready self ≡ true → has_staged self ≡ false → OfBytes S.Strip result (StandsFor (standing S.Strip self)) }
+        ensures leaves { Leaves S.Strip self }
     {
         let Journal { strip, .. } = self;
         strip
