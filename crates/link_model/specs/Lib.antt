@@ -1,6 +1,6 @@
 -- What a stream's calls do, and when they may fail.
-pub mod Faults
+pub mod Attempts
 pub mod Gathered
-pub mod Held
+pub mod MemoryStreams
 pub mod Calls
 pub mod Streams

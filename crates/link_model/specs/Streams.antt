@@ -1,6 +1,7 @@
--- What a take does to the bytes that are left, and a put to those that were taken.
+-- What a take does to the bytes that are left, a put to those that were taken, and a failed call to the count of faults.
 use Rattle.std.specs.Prelude.{◌≡◌, ℕ, ◌≤◌, List, [], length, take, Option, Result, Ok, Err, IfSome}
 use Rattle.std.specs.Io.KnownBytes.{prepend_known, append_known}
+use Rattle.fault_count.specs.Counts.{RoseByOne}
 
 -- the bytes that were left are those that were taken and those that are left now; none are taken only at the end; a failed take leaves all
 abbrev pub TakesFront : {E : Type 0} → Option (List ℕ) → Option (List ℕ) → Result ℕ E → List ℕ → Type 0
@@ -11,3 +12,7 @@ TakesFront old new (Err e) into = new ≡ old
 abbrev pub PutsFront : {T E : Type 0} → Option (List ℕ) → Option (List ℕ) → Result T E → List ℕ → Type 0
 PutsFront old new (Ok done) piece = new ≡ append_known old piece
 PutsFront old new (Err e) piece = (n : ℕ) × (n ≤ length piece) × (new ≡ append_known old (take n piece))
+
+-- the cause of a failed call: its one fault was counted
+abbrev pub OneFault : {E : Type 0} → ℕ → ℕ → E → Type 0
+OneFault before now error = RoseByOne before now

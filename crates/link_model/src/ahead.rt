@@ -1,16 +1,16 @@
 //! Bytes that were read before they were asked for.
 ghost use Rattle.std.specs.Prelude.{◌≡◌, ◌==◌, [], min, take, drop, length, Ok, OnOk, OnErr, IfOk};
 ghost use Rattle.std.specs.Io.KnownBytes.{Consumes, IsAtEnd, Keeps};
+ghost use Rattle.link_model.specs.Attempts.{HasTried};
 
+use crate::attempts::Attempts;
 use crate::failed::Failed;
 use crate::filling::copy_front;
-use crate::patience::read_some;
+use crate::limits::READ_AHEAD_MAX;
+use crate::outgoing::PassedOn;
 use std::alloc::{AllocError, Global};
 use std::io::Read;
 use std::marker::Model;
-
-/// How many bytes are read ahead at most: a pipe gives as many at once.
-const READ_AHEAD: usize = 65_536;
 
 /// Bytes that were read and not yet handed out: those of the buffer from `at` to `end`.
 #[derive(Drop)]
@@ -34,7 +34,7 @@ impl Ahead {
     pub(crate) fn new(alloc: Global) -> Result<Ahead, AllocError>
         ensures { IfOk result (λ a. a ≡ []) }
     {
-        let buffer = Vec::from_elem(alloc, 0, READ_AHEAD)?;
+        let buffer = Vec::from_elem(alloc, 0, READ_AHEAD_MAX)?;
         Ok(Ahead {
             buffer,
             at: 0,
@@ -48,15 +48,21 @@ impl Ahead {
         self.at == self.end
     }
 
-    /// Reads once, where nothing is left of what was read before. Nothing comes at the end alone.
-    pub(crate) fn fill<R: Read>(&mut self, reader: &mut R) -> Result<(), Failed>
+    /// Reads once, when nothing is left of what was read before. Only a caller that has just passed
+    /// on the replies has what it takes. Nothing comes at the end alone.
+    pub(crate) fn fill<R: Read>(
+        &mut self,
+        reader: &mut Attempts<R>,
+        _passed: PassedOn,
+    ) -> Result<(), Failed>
         requires { self.old ≡ [] }
-        ensures read { OnOk result (Consumes (R.remaining reader.old) (R.remaining reader.new) self.new) }
-        ensures end { OnOk result (self.new ≡ [] → IsAtEnd (R.remaining reader.new)) }
-        ensures kept { OnErr result (Keeps (R.remaining reader.old) (R.remaining reader.new)) }
+        ensures read { OnOk result (Consumes (R.remaining reader.old.stream) (R.remaining reader.new.stream) self.new) }
+        ensures end { OnOk result (self.new ≡ [] → IsAtEnd (R.remaining reader.new.stream)) }
+        ensures kept { OnErr result (Keeps (R.remaining reader.old.stream) (R.remaining reader.new.stream)) }
         ensures empty { OnErr result (self.new ≡ []) }
+        ensures calls { HasTried reader.old.counts reader.new.counts result }
     {
-        let count = read_some(reader, &mut self.buffer)?;
+        let count = reader.read_some(&mut self.buffer)?;
         self.at = 0;
         self.end = count;
         Ok(())

@@ -1,11 +1,12 @@
 //! A sink in memory, some of whose calls fail on purpose.
 ghost use Rattle.std.specs.Prelude.{◌≡◌, ◌≤◌, [], length, Some, Ok, Err, IfOk};
 ghost use Rattle.link_model.specs.Calls.{PutAnswer};
-ghost use Rattle.link_model.specs.Faults.{HasCause};
-ghost use Rattle.link_model.specs.Streams.{PutsFront};
+ghost use Rattle.fault_count.specs.Causes.{HasCause};
+ghost use Rattle.link_model.specs.Streams.{PutsFront, OneFault};
 
 use crate::failed::Failed;
 use crate::sink::Sink;
+use fault_count::FaultCount;
 use std::alloc::{AllocError, Global};
 use std::marker::Model;
 
@@ -17,14 +18,14 @@ pub struct ByteSink {
     room: u64,
     failing: Vec<u64>,
     calls: u64,
-    faults: u64,
+    faults: FaultCount,
 }
 
 impl Model for ByteSink {
     ghost use Rattle.std.specs.Prelude.{◌≤◌, length, vec_capacity};
-    ghost use Rattle.link_model.specs.Held.{HeldSink};
+    ghost use Rattle.link_model.specs.MemoryStreams.{SinkState};
 
-    ghost Value = { HeldSink };
+    ghost Value = { SinkState };
 
     ghost view = { λ k. record { bytes = k.bytes.items; room = k.room; failing = k.failing.items; calls = k.calls; faults = k.faults } };
 
@@ -43,7 +44,7 @@ impl ByteSink {
             room,
             failing,
             calls: 0,
-            faults: 0,
+            faults: FaultCount::new(),
         })
     }
 
@@ -66,7 +67,7 @@ impl ByteSink {
     pub fn faults(&self) -> u64
         ensures { result ≡ self.now.faults }
     {
-        self.faults
+        self.faults.get()
     }
 }
 
@@ -77,20 +78,20 @@ impl Sink for ByteSink {
 
     fn put(&mut self, piece: &[u8]) -> Result<(), Failed>
         ensures bytes { PutsFront (Some self.old.bytes) (Some self.new.bytes) result piece.now }
-        ensures cause { HasCause self.old.faults self.new.faults result }
+        ensures cause { HasCause OneFault self.old.faults self.new.faults result }
         ensures answer { PutAnswer self.old self.new result piece.now }
     {
         let call = self.calls;
         self.calls = self.calls.saturating_add(1);
         if self.failing.contains(&call) {
-            self.faults = self.faults.saturating_add(1);
+            self.faults.rise();
             return Err(Failed);
         }
         let space = self.room as usize - self.bytes.len();
         if space < piece.len() {
             let (front, _) = piece.split_at(space);
             self.bytes.extend_from_slice(front).unwrap();
-            self.faults = self.faults.saturating_add(1);
+            self.faults.rise();
             return Err(Failed);
         }
         self.bytes.extend_from_slice(piece).unwrap();

@@ -1,12 +1,13 @@
 //! A source in memory, some of whose calls fail on purpose.
 ghost use Rattle.std.specs.Prelude.{◌≡◌, ◌<◌, Some, Ok, Err, OnErr, IfOk, drop, length};
 ghost use Rattle.link_model.specs.Calls.{TakeAnswer};
-ghost use Rattle.link_model.specs.Faults.{HasCause};
-ghost use Rattle.link_model.specs.Streams.{TakesFront};
+ghost use Rattle.fault_count.specs.Causes.{HasCause};
+ghost use Rattle.link_model.specs.Streams.{TakesFront, OneFault};
 
 use crate::failed::Failed;
 use crate::filling::copy_front;
 use crate::source::Source;
+use fault_count::FaultCount;
 use std::marker::Model;
 
 /// Bytes in memory that a source gives. The calls of `take` whose numbers are listed fail; they
@@ -17,14 +18,14 @@ pub struct ByteSource {
     at: usize,
     failing: Vec<u64>,
     calls: u64,
-    faults: u64,
+    faults: FaultCount,
 }
 
 impl Model for ByteSource {
     ghost use Rattle.std.specs.Prelude.{◌≤◌, vec_len, drop};
-    ghost use Rattle.link_model.specs.Held.{HeldSource};
+    ghost use Rattle.link_model.specs.MemoryStreams.{SourceState};
 
-    ghost Value = { HeldSource };
+    ghost Value = { SourceState };
 
     ghost view = { λ s. record { bytes = drop s.at s.bytes.items; failing = s.failing.items; calls = s.calls; faults = s.faults } };
 
@@ -41,7 +42,7 @@ impl ByteSource {
             at: 0,
             failing,
             calls: 0,
-            faults: 0,
+            faults: FaultCount::new(),
         }
     }
 
@@ -64,7 +65,7 @@ impl ByteSource {
     pub fn faults(&self) -> u64
         ensures { result ≡ self.now.faults }
     {
-        self.faults
+        self.faults.get()
     }
 }
 
@@ -76,7 +77,7 @@ impl Source for ByteSource {
     fn take(&mut self, into: &mut [u8]) -> Result<usize, Failed>
         requires { 0 < length into.old }
         ensures bytes { TakesFront (Some self.old.bytes) (Some self.new.bytes) result into.new }
-        ensures cause { HasCause self.old.faults self.new.faults result }
+        ensures cause { HasCause OneFault self.old.faults self.new.faults result }
         ensures answer { TakeAnswer self.old self.new result (length into.old) }
         ensures rest { IfOk result (λ n. drop n into.new ≡ drop n into.old) }
         ensures untouched { OnErr result (into.new ≡ into.old) }
@@ -84,7 +85,7 @@ impl Source for ByteSource {
         let call = self.calls;
         self.calls = self.calls.saturating_add(1);
         if self.failing.contains(&call) {
-            self.faults = self.faults.saturating_add(1);
+            self.faults.rise();
             return Err(Failed);
         }
         let (_, rest) = self.bytes.as_slice().split_at(self.at);

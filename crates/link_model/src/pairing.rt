@@ -2,18 +2,23 @@
 ghost use Rattle.std.specs.Prelude.{◌≡◌, IfOk};
 
 use crate::ahead::Ahead;
+use crate::attempts::Attempts;
 use crate::outgoing::Outgoing;
 use crate::reader_source::ReaderSource;
 use crate::writer_sink::WriterSink;
+use fault_count::FaultCount;
 use std::alloc::{AllocError, Global};
-use std::cell::RefCell;
 use std::io::{Read, Write};
-use std::rc::Rc;
+use std::sync::{Arc, Mutex};
 
 /// Makes a source over `reader` and a sink over `writer` that share what the sink holds back: the
-/// source passes it on before it waits for input. `AllocError` comes where memory has no room for
-/// their two buffers; the reader and the writer are let go then.
-pub fn joined<R: Read + Drop, W: Write + Drop>(
+/// source passes it on before it waits for input. The pair may move to another thread. Each end calls
+/// the other's half only for the length of one call; if both are in a call at once, in two threads,
+/// the later one fails.
+///
+/// `AllocError` comes if memory has no room for their two buffers. The reader and the writer are let
+/// go then.
+pub fn stream_pair<R: Read + Drop, W: Write + Drop>(
     alloc: Global,
     reader: R,
     writer: W,
@@ -22,16 +27,16 @@ pub fn joined<R: Read + Drop, W: Write + Drop>(
     ensures sink { IfOk result (λ pair. pair.1.faults ≡ 0) }
 {
     let ahead = Ahead::new(alloc)?;
-    let outgoing = Rc::new(alloc, RefCell::new(Outgoing::new(alloc, writer)?))?;
+    let outgoing = Arc::new(alloc, Mutex::new(Outgoing::new(alloc, writer)?))?;
     let sink = WriterSink {
-        outgoing: outgoing.clone()?,
-        faults: 0,
+        outgoing: Arc::try_clone(&outgoing)?,
+        faults: FaultCount::new(),
     };
     let source = ReaderSource {
-        reader,
+        reader: Attempts::new(reader),
         ahead,
         outgoing,
-        faults: 0,
+        faults: FaultCount::new(),
     };
     Ok((source, sink))
 }

@@ -1,60 +1,68 @@
-//! Reads and writes of the system that go on where a signal interrupts them.
-ghost use Rattle.std.specs.Prelude.{◌≡◌, ◌<◌, ◌≤◌, take, length, Ok, Err, IfOk, OnErr};
-ghost use Rattle.std.specs.Io.KnownBytes.{Appends, Consumes, IsAtEnd, Keeps};
+//! Reads, writes and flushes that go on where a signal interrupts them.
+ghost use Rattle.std.specs.Prelude.{◌≡◌, ◌≤◌, true, length, IfOk, OnOk};
+ghost use Rattle.std.specs.Io.KnownBytes.{Keeps, ReadConsumes};
+ghost use Rattle.link_model.specs.Attempts.{HasTried, WritesFront};
 
+use crate::attempts::{Attempts, CallError};
 use crate::failed::Failed;
-use std::io::{ErrorKind, Read, Write};
+use crate::limits::INTERRUPTS_MAX;
+use std::io::{Read, Write};
 
-/// How many interrupted calls in a row, or in one write, are tried again. No run of signals is as
-/// long; the number bounds the loop.
-const MOST_INTERRUPTS: u32 = 100_000;
-
-/// Reads once, and again where a signal interrupts it. The answer 0 is the end of the input.
-pub(crate) fn read_some<R: Read>(reader: &mut R, into: &mut [u8]) -> Result<usize, Failed>
-    ensures bound { IfOk result (λ n. n ≤ length into.new) }
-    ensures bytes { IfOk result (λ n. Consumes (R.remaining reader.old) (R.remaining reader.new) (take n into.new)) }
-    ensures end { IfOk result (λ n. n ≡ 0 → 0 < length into.old → IsAtEnd (R.remaining reader.new)) }
-    ensures kept { OnErr result (Keeps (R.remaining reader.old) (R.remaining reader.new)) }
-{
-    for _ in 0..MOST_INTERRUPTS {
-        match reader.read(into) {
-            Ok(count) => return Ok(count),
-            Err(error) => {
-                if error.kind() != ErrorKind::Interrupted {
-                    return Err(Failed);
-                }
+impl<R: Read> Attempts<R> {
+    /// Reads once, and again where a signal interrupts it. The answer 0 is the end of the input.
+    pub(crate) fn read_some(&mut self, into: &mut [u8]) -> Result<usize, Failed>
+        ensures bound { IfOk result (λ n. n ≤ length into.new) }
+        ensures bytes { ReadConsumes (R.remaining self.old.stream) (R.remaining self.new.stream) result into.new }
+        ensures calls { HasTried self.old.counts self.new.counts result }
+    {
+        let mut interrupts = 0;
+        'reads: while interrupts < INTERRUPTS_MAX {
+            match self.read(into) {
+                Ok(count) => return Ok(count),
+                Err(CallError::Interrupted) => interrupts += 1,
+                Err(CallError::Failed) => return Err(Failed),
             }
         }
+        Err(Failed)
     }
-    Err(Failed)
 }
 
-/// Writes the bytes in order, and answers how many were written: all, unless a write failed.
-pub(crate) fn write_front<W: Write>(writer: &mut W, bytes: &[u8]) -> usize
-    ensures bound { result ≤ length bytes.now }
-    ensures bytes { Appends (W.contents writer.old) (W.contents writer.new) (take result bytes.now) }
-{
-    let mut written = 0;
-    let mut interrupts = 0;
-    'writes: while written < bytes.len() && interrupts < MOST_INTERRUPTS {
-        let (_, rest) = bytes.split_at(written);
-        match writer.write(rest) {
-            Ok(0) => return written,
-            Ok(count) => written += count,
-            Err(error) => {
-                if error.kind() != ErrorKind::Interrupted {
-                    return written;
-                }
-                interrupts += 1;
+impl<W: Write> Attempts<W> {
+    /// Writes the bytes in order. The error is how many were written, fewer than all.
+    pub(crate) fn write_front(&mut self, bytes: &[u8]) -> Result<(), usize>
+        ensures bytes { WritesFront (W.contents self.old.stream) (W.contents self.new.stream) result bytes.now }
+        ensures calls { HasTried self.old.counts self.new.counts result }
+    {
+        let mut written = 0;
+        let mut interrupts = 0;
+        'writes: while written < bytes.len() {
+            if interrupts == INTERRUPTS_MAX {
+                return Err(written);
+            }
+            let (_, rest) = bytes.split_at(written);
+            match self.write(rest) {
+                Ok(count) => written += count,
+                Err(CallError::Interrupted) => interrupts += 1,
+                Err(CallError::Failed) => return Err(written),
             }
         }
+        Ok(())
     }
-    written
-}
 
-/// Flushes the writer.
-pub(crate) fn flush<W: Write>(writer: &mut W) -> Result<(), Failed>
-    ensures { Keeps (W.contents writer.old) (W.contents writer.new) }
-{
-    writer.flush().map_err(|_| Failed)
+    /// Flushes, and again where a signal interrupts it.
+    pub(crate) fn flush_all(&mut self) -> Result<(), Failed>
+        ensures bytes { Keeps (W.contents self.old.stream) (W.contents self.new.stream) }
+        ensures calls { HasTried self.old.counts self.new.counts result }
+        ensures flushed { OnOk result (self.new.is_flushed ≡ true) }
+    {
+        let mut interrupts = 0;
+        'flushes: while interrupts < INTERRUPTS_MAX {
+            match self.flush() {
+                Ok(()) => return Ok(()),
+                Err(CallError::Interrupted) => interrupts += 1,
+                Err(CallError::Failed) => return Err(Failed),
+            }
+        }
+        Err(Failed)
+    }
 }

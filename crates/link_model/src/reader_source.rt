@@ -1,28 +1,30 @@
 //! A source over a reader of the system.
-ghost use Rattle.std.specs.Prelude.{◌≡◌, ◌<◌, [], None, length, OnOk};
+ghost use Rattle.std.specs.Prelude.{◌≡◌, ◌<◌, [], None, Ok, IsOk, length, OnOk};
 ghost use Rattle.std.specs.Io.KnownBytes.{prepend_known, IsAtEnd, Keeps, ReadConsumes};
-ghost use Rattle.link_model.specs.Faults.{HasCause};
-ghost use Rattle.link_model.specs.Streams.{TakesFront};
+ghost use Rattle.fault_count.specs.Causes.{HasCause};
+ghost use Rattle.link_model.specs.Streams.{TakesFront, OneFault};
 
 use crate::ahead::Ahead;
+use crate::attempts::Attempts;
 use crate::failed::Failed;
-use crate::outgoing::Outgoing;
+use crate::outgoing::{Outgoing, PassedOn};
 use crate::source::Source;
-use std::cell::RefCell;
+use fault_count::FaultCount;
+use std::alloc::Global;
 use std::io::{Read, Write};
-use std::rc::Rc;
+use std::sync::{Arc, Mutex};
 
-/// A source over a reader, made by `joined`. It reads ahead up to 65,536 bytes, and hands out from
-/// them. Before it reads it passes on what its sink holds back, so no reply waits for input; where
+/// A source over a reader, made by `stream_pair`. It reads ahead up to 65,536 bytes, and hands out
+/// from them. Before it reads it passes on what its sink holds back, so no reply waits for input. If
 /// that fails, the take has failed, and nothing of the input is lost.
 ///
-/// Its bytes are not told. Its count of faults stands still at 2^64 - 1.
+/// Contracts do not see its bytes. Its count of faults stands still at 2^64 - 1.
 #[derive(Drop)]
 pub struct ReaderSource<R, W> {
-    pub(crate) reader: R,
+    pub(crate) reader: Attempts<R>,
     pub(crate) ahead: Ahead,
-    pub(crate) outgoing: Rc<RefCell<Outgoing<W>>>,
-    pub(crate) faults: u64,
+    pub(crate) outgoing: Arc<Mutex<Outgoing<W>>, Global>,
+    pub(crate) faults: FaultCount,
 }
 
 impl<R, W> ReaderSource<R, W> {
@@ -30,29 +32,30 @@ impl<R, W> ReaderSource<R, W> {
     pub fn faults(&self) -> u64
         ensures { result ≡ self.now.faults }
     {
-        self.faults
+        self.faults.get()
     }
 }
 
 impl<R: Read + Drop, W: Write + Drop> ReaderSource<R, W> {
-    fn pass_on(&self) -> Result<(), Failed> {
-        match self.outgoing.try_borrow_mut() {
-            Ok(mut outgoing) => outgoing.pass_on(),
-            Err(_) => Err(Failed),
+    fn pass_on(&self) -> Result<PassedOn, Failed> {
+        match self.outgoing.try_lock() {
+            Some(mut outgoing) => outgoing.pass_on(),
+            None => Err(Failed),
         }
     }
 
-    /// Reads ahead, where nothing is left of what was read.
+    /// Reads ahead, if nothing is left of what was read.
     fn read_ahead(&mut self) -> Result<(), Failed>
-        ensures bytes { Keeps (prepend_known self.old.ahead (R.remaining self.old.reader)) (prepend_known self.new.ahead (R.remaining self.new.reader)) }
-        ensures end { OnOk result (self.new.ahead ≡ [] → IsAtEnd (R.remaining self.new.reader)) }
+        ensures bytes { Keeps (prepend_known self.old.ahead (R.remaining self.old.reader.stream)) (prepend_known self.new.ahead (R.remaining self.new.reader.stream)) }
+        ensures end { OnOk result (self.new.ahead ≡ [] → IsAtEnd (R.remaining self.new.reader.stream)) }
         ensures faults { self.new.faults ≡ self.old.faults }
+        ensures idle { 0 < length self.old.ahead → (result ≡ Ok tt) × (self.new ≡ self.old) }
     {
         if !self.ahead.is_empty() {
             return Ok(());
         }
-        self.pass_on()?;
-        self.ahead.fill(&mut self.reader)
+        let passed = self.pass_on()?;
+        self.ahead.fill(&mut self.reader, passed)
     }
 }
 
@@ -64,11 +67,14 @@ impl<R: Read + Drop, W: Write + Drop> Source for ReaderSource<R, W> {
     fn take(&mut self, into: &mut [u8]) -> Result<usize, Failed>
         requires { 0 < length into.old }
         ensures bytes { TakesFront None None result into.new }
-        ensures cause { HasCause self.old.faults self.new.faults result }
-        ensures read { ReadConsumes (prepend_known self.old.ahead (R.remaining self.old.reader)) (prepend_known self.new.ahead (R.remaining self.new.reader)) result into.new }
+        ensures cause { HasCause OneFault self.old.faults self.new.faults result }
+        ensures read { ReadConsumes (prepend_known self.old.ahead (R.remaining self.old.reader.stream)) (prepend_known self.new.ahead (R.remaining self.new.reader.stream)) result into.new }
+
+        // What was read ahead is handed out without a call of the system.
+        ensures ahead { 0 < length self.old.ahead → IsOk result × (self.new.reader ≡ self.old.reader) }
     {
         let Ok(()) = self.read_ahead() else {
-            self.faults = self.faults.saturating_add(1);
+            self.faults.rise();
             return Err(Failed);
         };
         Ok(self.ahead.hand_out(into))

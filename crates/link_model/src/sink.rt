@@ -1,7 +1,7 @@
 //! Where bytes go to.
 ghost use Rattle.std.specs.Prelude.{ℕ, List, Option};
-ghost use Rattle.link_model.specs.Faults.{HasCause};
-ghost use Rattle.link_model.specs.Streams.{PutsFront};
+ghost use Rattle.fault_count.specs.Causes.{HasCause};
+ghost use Rattle.link_model.specs.Streams.{PutsFront, OneFault};
 
 use crate::failed::Failed;
 
@@ -17,5 +17,5 @@ pub trait Sink {
     /// allowed: a sink that gathers passes on what it holds at that call.
     fn put(&mut self, piece: &[u8]) -> Result<(), Failed>
         ensures bytes { PutsFront (written self.old) (written self.new) result piece.now }
-        ensures cause { HasCause (faults self.old) (faults self.new) result };
+        ensures cause { HasCause OneFault (faults self.old) (faults self.new) result };
 }

@@ -1,11 +1,12 @@
 //! A sink in memory that fails only where its room is passed.
 ghost use Rattle.std.specs.Prelude.{◌≡◌, ◌≤◌, [], length, Some, Ok, Err, IfOk};
 ghost use Rattle.link_model.specs.Calls.{SteadyPutAnswer};
-ghost use Rattle.link_model.specs.Faults.{HasCause};
-ghost use Rattle.link_model.specs.Streams.{PutsFront};
+ghost use Rattle.fault_count.specs.Causes.{HasCause};
+ghost use Rattle.link_model.specs.Streams.{PutsFront, OneFault};
 
 use crate::failed::Failed;
 use crate::sink::Sink;
+use fault_count::FaultCount;
 use std::alloc::{AllocError, Global};
 use std::marker::Model;
 
@@ -14,14 +15,14 @@ use std::marker::Model;
 pub struct SteadySink {
     bytes: Vec<u8>,
     room: u64,
-    faults: u64,
+    faults: FaultCount,
 }
 
 impl Model for SteadySink {
     ghost use Rattle.std.specs.Prelude.{◌≤◌, length, vec_capacity};
-    ghost use Rattle.link_model.specs.Held.{HeldSteadySink};
+    ghost use Rattle.link_model.specs.MemoryStreams.{SteadySinkState};
 
-    ghost Value = { HeldSteadySink };
+    ghost Value = { SteadySinkState };
 
     ghost view = { λ k. record { bytes = k.bytes.items; room = k.room; faults = k.faults } };
 
@@ -38,7 +39,7 @@ impl SteadySink {
         Ok(SteadySink {
             bytes,
             room,
-            faults: 0,
+            faults: FaultCount::new(),
         })
     }
 
@@ -54,7 +55,7 @@ impl SteadySink {
     pub fn faults(&self) -> u64
         ensures { result ≡ self.now.faults }
     {
-        self.faults
+        self.faults.get()
     }
 }
 
@@ -65,14 +66,14 @@ impl Sink for SteadySink {
 
     fn put(&mut self, piece: &[u8]) -> Result<(), Failed>
         ensures bytes { PutsFront (Some self.old.bytes) (Some self.new.bytes) result piece.now }
-        ensures cause { HasCause self.old.faults self.new.faults result }
+        ensures cause { HasCause OneFault self.old.faults self.new.faults result }
         ensures answer { SteadyPutAnswer self.old self.new result piece.now }
     {
         let space = self.room as usize - self.bytes.len();
         if space < piece.len() {
             let (front, _) = piece.split_at(space);
             self.bytes.extend_from_slice(front).unwrap();
-            self.faults = self.faults.saturating_add(1);
+            self.faults.rise();
             return Err(Failed);
         }
         self.bytes.extend_from_slice(piece).unwrap();

@@ -1,7 +1,7 @@
 //! A source in memory that never fails.
 ghost use Rattle.std.specs.Prelude.{◌≡◌, ◌<◌, min, Some, Ok, IfOk, drop, length};
-ghost use Rattle.link_model.specs.Faults.{HasCause};
-ghost use Rattle.link_model.specs.Streams.{TakesFront};
+ghost use Rattle.fault_count.specs.Causes.{HasCause};
+ghost use Rattle.link_model.specs.Streams.{TakesFront, OneFault};
 
 use crate::failed::Failed;
 use crate::filling::copy_front;
@@ -17,9 +17,9 @@ pub struct SteadySource {
 
 impl Model for SteadySource {
     ghost use Rattle.std.specs.Prelude.{◌≤◌, vec_len, drop};
-    ghost use Rattle.link_model.specs.Held.{HeldSteadySource};
+    ghost use Rattle.link_model.specs.MemoryStreams.{SteadySourceState};
 
-    ghost Value = { HeldSteadySource };
+    ghost Value = { SteadySourceState };
 
     ghost view = { λ s. record { bytes = drop s.at s.bytes.items } };
 
@@ -51,7 +51,7 @@ impl Source for SteadySource {
     fn take(&mut self, into: &mut [u8]) -> Result<usize, Failed>
         requires { 0 < length into.old }
         ensures bytes { TakesFront (Some self.old.bytes) (Some self.new.bytes) result into.new }
-        ensures cause { HasCause 0 0 result }
+        ensures cause { HasCause OneFault 0 0 result }
         ensures count { result ≡ Ok (min (length into.old) (length self.old.bytes)) }
         ensures rest { IfOk result (λ n. drop n into.new ≡ drop n into.old) }
     {

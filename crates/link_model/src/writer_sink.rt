@@ -4,20 +4,21 @@ ghost use Rattle.std.specs.Prelude.{◌≡◌, None};
 use crate::failed::Failed;
 use crate::outgoing::Outgoing;
 use crate::sink::Sink;
-use std::cell::RefCell;
+use fault_count::FaultCount;
+use std::alloc::Global;
 use std::io::Write;
-use std::rc::Rc;
+use std::sync::{Arc, Mutex};
 
-/// A sink over a writer, made by `joined`. It gathers what is put, up to 65,536 bytes, and passes
+/// A sink over a writer, made by `stream_pair`. It gathers what is put, up to 65,536 bytes. It passes
 /// that on when the next piece does not fit behind it, at a put of an empty piece, and before its
 /// source waits for input. What is still held when both are let go is lost, so the last put is of
 /// an empty piece.
 ///
-/// Its bytes are not told. Its count of faults stands still at 2^64 - 1.
+/// Contracts do not see its bytes. Its count of faults stands still at 2^64 - 1.
 #[derive(Drop)]
 pub struct WriterSink<W> {
-    pub(crate) outgoing: Rc<RefCell<Outgoing<W>>>,
-    pub(crate) faults: u64,
+    pub(crate) outgoing: Arc<Mutex<Outgoing<W>>, Global>,
+    pub(crate) faults: FaultCount,
 }
 
 impl<W> WriterSink<W> {
@@ -25,15 +26,15 @@ impl<W> WriterSink<W> {
     pub fn faults(&self) -> u64
         ensures { result ≡ self.now.faults }
     {
-        self.faults
+        self.faults.get()
     }
 }
 
 impl<W: Write + Drop> WriterSink<W> {
     fn put_gathered(&self, piece: &[u8]) -> Result<(), Failed> {
-        match self.outgoing.try_borrow_mut() {
-            Ok(mut outgoing) => outgoing.put(piece),
-            Err(_) => Err(Failed),
+        match self.outgoing.try_lock() {
+            Some(mut outgoing) => outgoing.put(piece),
+            None => Err(Failed),
         }
     }
 }
@@ -46,7 +47,7 @@ impl<W: Write + Drop> Sink for WriterSink<W> {
     fn put(&mut self, piece: &[u8]) -> Result<(), Failed> {
         let done = self.put_gathered(piece);
         if done.is_err() {
-            self.faults = self.faults.saturating_add(1);
+            self.faults.rise();
         }
         done
     }

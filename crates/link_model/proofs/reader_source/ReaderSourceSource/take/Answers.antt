@@ -1,5 +1,5 @@
 use Rattle.std.proofs.Common.{length}
-use Rattle.link_model.proofs.Known.{handed_out}
+use Rattle.link_model.proofs.GivenLemmas.{handed_out}
 use Rattle.link_model.proofs.reader_source.ReaderSourceSource.take.Goals as goal
 
 pub returns-clause-read : goal.returns-clause-read

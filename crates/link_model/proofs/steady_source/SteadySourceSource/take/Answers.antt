@@ -1,5 +1,5 @@
 use Rattle.std.proofs.Common.{ap, drop, length, ◌∙◌, rules}
-use Rattle.link_model.proofs.Taking.{takes_front}
+use Rattle.link_model.proofs.TakeLemmas.{takes_front}
 use Rattle.link_model.proofs.steady_source.SteadySourceSource.take.Goals as goal
 
 pub returns-clause-bytes : goal.returns-clause-bytes
