@@ -1,8 +1,9 @@
 -- The session relation: which replies requests may get over a history, and where the session then stands.
-use Rattle.std.specs.Prelude.{◌≡◌, ℕ, ◌+◌, ◌≤◌, List, [], ◌∷◌, length, Some, None}
+use Rattle.std.specs.Prelude.{◌≡◌, ℕ, ◌+◌, ◌≤◌, List, [], ◌∷◌, length, Option, Some, None}
 use Rattle.std.specs.List.{AllByRecursion}
 use Rattle.rdb_base.specs.declared.row.Row.{Row}
 use Rattle.rdb_base.specs.declared.entry.Entry.{Entry}
+use Rattle.rdb_base.specs.declared.change.Change.{Change}
 use Rattle.rdb_base.specs.declared.change.Change.TheVariants as changes
 use Rattle.rdb_base.specs.Maps.{value_at}
 use Rattle.rdb_base.specs.Histories.{History, IsEntry, AreNumbered, after, end}
@@ -18,9 +19,9 @@ pub record SessionState : Type 0 where
   pub ordinal : ℕ
   pub least : ℕ
 
--- the entry that a put makes in this state
-abbrev pub put_entry : SessionState → Row → Entry
-put_entry state row = record { caller = state.caller; ordinal = state.ordinal; key = row.key; change = changes.Put row.value }
+-- the entry that an update makes in this state
+abbrev pub entry_by : SessionState → List ℕ → Change → Entry
+entry_by state key change = record { caller = state.caller; ordinal = state.ordinal; key = key; change = change }
 
 -- the state after an update with this number
 abbrev pub updated_at : SessionState → ℕ → SessionState
@@ -30,17 +31,28 @@ updated_at state number = record { caller = state.caller; ordinal = state.ordina
 abbrev pub looked_at : SessionState → ℕ → SessionState
 looked_at state front = record { caller = state.caller; ordinal = state.ordinal; least = front }
 
+-- an update is entered in the history under its number
+abbrev pub Enters : History → SessionState → List ℕ → Change → ℕ → SessionState → Type 0
+Enters history state key change number next =
+    (state.least ≤ number) × IsEntry history number (entry_by state key change) × (next ≡ updated_at state number)
+
+-- a look at a key finds what the map at its front has
+abbrev pub Looks : History → SessionState → List ℕ → ℕ → Option (List ℕ) → SessionState → Type 0
+Looks history state key front found next =
+    (state.least ≤ front)
+    × (front ≤ end history)
+    × (value_at (after history front) key ≡ found)
+    × (next ≡ looked_at state front)
+
 -- over this history a session in this state may answer the request so, and then stands in the next state
 abbrev pub Replays : History → SessionState → Request → Reply → SessionState → Type 0
--- a put is entered under its number
-Replays history state (Put row) (Done number) next = (state.least ≤ number) × IsEntry history number (put_entry state row) × (next ≡ updated_at state number)
--- a get answers what the map at its front has
-Replays history state (Get key) (Value front value) next = (state.least ≤ front) × (front ≤ end history) × (value_at (after history front) key ≡ Some value) × (next ≡ looked_at state front)
-Replays history state (Get key) (Absent front) next = (state.least ≤ front) × (front ≤ end history) × (value_at (after history front) key ≡ None) × (next ≡ looked_at state front)
+Replays history state (Put row) (Done number) next = Enters history state row.key (changes.Put row.value) number next
+Replays history state (Get key) (Value front value) next = Looks history state key front (Some value) next
+Replays history state (Get key) (Absent front) next = Looks history state key front None next
 Replays history state Quit Bye next = next ≡ state
 -- a device that failed changes nothing
 Replays history state (Put row) (DeviceFault device) next = (device ≤ DEVICE_MAX) × (next ≡ state)
--- want of memory changes nothing
+-- a request that is out of memory changes nothing
 Replays history state (Put row) OutOfMemory next = next ≡ state
 Replays history state (Get key) OutOfMemory next = next ≡ state
 -- no other reply is given
@@ -49,11 +61,12 @@ Replays history state request reply next = ⊥
 -- the same of requests and their replies, one after the other
 abbrev pub ReplaysAll : History → SessionState → List Request → List Reply → SessionState → Type 0
 ReplaysAll history state [] [] next = next ≡ state
-ReplaysAll history state (request ∷ requests) (reply ∷ replies) next = (between : SessionState) × Replays history state request reply between × ReplaysAll history between requests replies next
+ReplaysAll history state (request ∷ requests) (reply ∷ replies) next =
+    (between : SessionState) × Replays history state request reply between × ReplaysAll history between requests replies next
 ReplaysAll history state [] (reply ∷ replies) next = ⊥
 ReplaysAll history state (request ∷ requests) [] next = ⊥
 
--- where the session of the only caller begins
+-- the state in which the only caller's session begins
 abbrev pub begun : ℕ → SessionState
 begun number = record { caller = 0; ordinal = 0; least = number }
 
@@ -65,4 +78,5 @@ pub record IsSession (rows : List Row) (number : ℕ) (requests : List Request) 
   pub callers : AllByRecursion (λ entry. entry.caller ≡ 0) entries
   pub numbered : AreNumbered 0 entries
   pub all : last.ordinal ≡ length entries
-  pub replays : ReplaysAll (record { base = rows; first = number; entries = entries }) (begun number) requests replies last
+  pub replays :
+      ReplaysAll (record { base = rows; first = number; entries = entries }) (begun number) requests replies last

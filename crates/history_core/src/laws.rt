@@ -1,8 +1,9 @@
 //! What holds of the session relation, as a call that carries it in its contract. It does nothing.
-ghost use Rattle.history_core.specs.Laws.{NeverFallsBehind, StandsWhenHistoryGrows};
+ghost use Rattle.history_core.specs.Laws.{NumbersNeverFall, LeastNeverFalls, StandsWhenHistoryGrows};
 
-/// The numbers that the replies of a session name never fall behind, and replies stand when others add to the history.
+/// The numbers that the replies of a session name never fall, and replies stand when others add to the history.
 pub fn replies_over_history()
-    ensures forward { NeverFallsBehind }
+    ensures numbers { NumbersNeverFall }
+    ensures forward { LeastNeverFalls }
     ensures growing { StandsWhenHistoryGrows }
 {}

@@ -1,5 +1,5 @@
-pub mod MapSessions
-pub mod Counting
-pub mod Exchanges
-pub mod TurnEnds
-pub mod Conversing
+pub mod MapSessionLemmas
+pub mod CountLemmas
+pub mod ExchangeLemmas
+pub mod TurnLemmas
+pub mod ConversationLemmas

@@ -1,6 +1,6 @@
-pub mod Machines
+pub mod PlainMap
 pub mod Refusals
-pub mod Answering
+pub mod StoreCalls
 pub mod Telling
 pub mod Conversations
 pub mod Turns

@@ -1,14 +1,14 @@
 ghost use Rattle.std.specs.Prelude.{ℕ, ◌<◌, ◌^◌};
 ghost use Rattle.disk_model.specs.Books.{BookName};
-ghost use Rattle.session_core.specs.Machines.{MapState};
-ghost use Rattle.session_core.specs.Answering.{PutAnswer, PutCause, GetAnswer, SameCounts};
+ghost use Rattle.session_core.specs.PlainMap.{MapState};
+ghost use Rattle.session_core.specs.StoreCalls.{PutAnswer, PutCause, GetAnswer, SameCounts};
 
 use crate::found::Found;
 use crate::update_error::UpdateError;
 use rdb_base::{Key, NoMemory, Value};
 use std::alloc::Global;
 
-/// A store as a session sees it: one map, and devices that may fail.
+/// A store that answers a session: one map, and devices that may fail.
 pub trait Answers {
     /// What one caller keeps of the store from call to call.
     type Pass;

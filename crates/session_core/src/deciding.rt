@@ -1,12 +1,13 @@
-//! What a whole message comes to: a reply, the session's end, or a refusal.
+//! What a whole message comes to: a reply, and perhaps the session's end.
 ghost use Rattle.std.specs.Prelude.{◌≡◌, ◌<◌, ◌^◌};
 ghost use Rattle.history_core.specs.declared.request.Request.TheVariants as asks;
 ghost use Rattle.wire_protocol.specs.Messages.{wanted};
-ghost use Rattle.session_core.specs.Telling.{Answered, AreOf, AreAtMost};
+ghost use Rattle.session_core.specs.Telling.{StoreAnswers, AreOf, AreAtMost, store_of};
 ghost use Rattle.session_core.specs.Turns.{Decides};
 
 use crate::answers::Answers;
 use crate::found::Found;
+use crate::session_end::SessionEnd;
 use crate::update_error::UpdateError;
 use disk_model::FaultPile;
 use history_core::{Reply, Request};
@@ -15,13 +16,10 @@ use std::alloc::Global;
 use wire_protocol::{Decoder, WireError};
 
 /// What a whole message comes to.
-pub(crate) enum Decision {
-    /// This reply, and the session goes on.
-    Goes(Reply),
-    /// The last reply, and the session ends.
-    Ends,
-    /// The message that begins at this place is refused by this code, and the session ends.
-    Refuses { at: u64, code: u8 },
+pub(crate) struct Decision {
+    pub(crate) reply: Reply,
+    /// How the session ends, if this is its last reply.
+    pub(crate) end: Option<SessionEnd>,
 }
 
 fn answer_put<A: Answers>(
@@ -34,7 +32,8 @@ fn answer_put<A: Answers>(
     requires number { (A.map pass.old).number < 2 ^ 62 }
     requires few { AreAtMost (2 ^ 62) faults.old }
     requires books { AreOf A.books faults.old }
-    ensures answered { Answered (record { map = A.map pass.old; counts = A.counts pass.old; units = faults.old }) (record { map = A.map pass.new; counts = A.counts pass.new; units = faults.new }) (asks.Put row) result }
+    ensures answered { StoreAnswers (store_of A.Answers pass.old faults.old) (store_of A.Answers pass.new faults.new)
+        (asks.Put row) result }
     ensures books { AreOf A.books faults.new }
 {
     let Row { key, value } = row;
@@ -56,7 +55,8 @@ fn answer_get<A: Answers>(
     faults: &FaultPile,
     key: &Key,
 ) -> Reply
-    ensures { Answered (record { map = A.map pass.old; counts = A.counts pass.old; units = faults.now }) (record { map = A.map pass.new; counts = A.counts pass.new; units = faults.now }) (asks.Get key.now) result }
+    ensures { StoreAnswers (store_of A.Answers pass.old faults.now) (store_of A.Answers pass.new faults.now)
+        (asks.Get key.now) result }
 {
     match answers.get(alloc, pass, key) {
         Ok(Found { front, value }) => match value {
@@ -79,19 +79,20 @@ pub(crate) fn decide<A: Answers>(
     requires number { (A.map pass.old).number < 2 ^ 62 }
     requires few { AreAtMost (2 ^ 62) faults.old }
     requires books { AreOf A.books faults.old }
-    ensures decides { Decides decoder.old (record { map = A.map pass.old; counts = A.counts pass.old; units = faults.old }) result decoder.new (record { map = A.map pass.new; counts = A.counts pass.new; units = faults.new }) }
+    ensures decides { Decides decoder.old (store_of A.Answers pass.old faults.old) result
+        decoder.new (store_of A.Answers pass.new faults.new) }
     ensures books { AreOf A.books faults.new }
 {
-    match decoder.request(alloc) {
-        Ok(Some(Request::Put { row })) => Decision::Goes(answer_put(
-            answers, alloc, pass, faults, row,
-        )),
-        Ok(Some(Request::Get { key })) => Decision::Goes(answer_get(
-            answers, alloc, pass, faults, &key,
-        )),
-        Ok(Some(Request::Quit)) => Decision::Ends,
+    let (reply, end) = match decoder.request(alloc) {
+        Ok(Some(Request::Put { row })) => (answer_put(answers, alloc, pass, faults, row), None),
+        Ok(Some(Request::Get { key })) => (answer_get(answers, alloc, pass, faults, &key), None),
+        Ok(Some(Request::Quit)) => (Reply::Bye, Some(SessionEnd::Quit)),
         Ok(None) => unreachable!(),
-        Err(WireError::Memory) => Decision::Goes(Reply::OutOfMemory),
-        Err(WireError::BadMessage { at, code }) => Decision::Refuses { at, code },
-    }
+        Err(WireError::Memory) => (Reply::OutOfMemory, None),
+        Err(WireError::BadMessage { at, code }) => {
+            let end = SessionEnd::Bad { at, code };
+            (Reply::BadMessage { at, code }, Some(end))
+        }
+    };
+    Decision { reply, end }
 }

@@ -2,13 +2,14 @@
 //!
 //! Stands for   a conversation: the requests that came, the replies that were put, and the map then
 //!              (`specs/Conversations.antt`, `SessionEnds`)
-//! Promises     each request gets one reply, in order, that a plain ordered map gives (`specs/Machines.antt`); these
+//! Promises     each request gets one reply, in order, that a plain ordered map gives (`specs/PlainMap.antt`); these
 //!              are replies over one history; a session ends by a named cause, and a refused message gets its place
 //!              and code; a failure of a device is told with a unit of that device's book
 //! Goes in      a store that `Answers`, a source and a sink
 //! Comes out    how the session ended, how many replies were decided, and the units of failures
-//! Stands on    wire_protocol, history_core, rdb_base, link_model, disk_model
+//! Stands on    wire_protocol, history_core, rdb_base, link_model, disk_model, fault_count
 //! Used by      remixdb
+//! Begin at     src/session.rt, `run_session`
 //! Leaves open  that a source gives more bytes, that a sink takes them
 #![tactic(auto)]
 
@@ -17,6 +18,7 @@ mod deciding;
 mod filling;
 mod found;
 pub mod laws;
+mod limits;
 mod rooms;
 mod session;
 mod session_end;
@@ -24,8 +26,8 @@ mod session_out;
 mod update_error;
 
 pub use answers::Answers;
-pub use filling::SESSION_MAX;
 pub use found::Found;
+pub use limits::SESSION_MAX;
 pub use session::run_session;
 pub use session_end::SessionEnd;
 pub use session_out::SessionOut;

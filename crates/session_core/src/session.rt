@@ -2,16 +2,17 @@
 ghost use Rattle.std.specs.Prelude.{◌≡◌, ◌≢◌, ◌+◌, ◌≤◌, ◌<◌, [], vec_capacity, Some, None};
 ghost use Rattle.wire_protocol.specs.declared.limits.TheConstants.{REPLY_MAX};
 ghost use Rattle.wire_protocol.specs.Grammar.{spell_reply as reply_bytes};
-ghost use Rattle.link_model.specs.Faults.{Rose, HasCause};
-ghost use Rattle.link_model.specs.Streams.{PutsFront};
-ghost use Rattle.session_core.specs.declared.filling.TheConstants.{SESSION_MAX};
+ghost use Rattle.fault_count.specs.Counts.{Rose};
+ghost use Rattle.fault_count.specs.Causes.{HasCause};
+ghost use Rattle.link_model.specs.Streams.{PutsFront, OneFault};
+ghost use Rattle.session_core.specs.declared.limits.TheConstants.{SESSION_MAX};
 ghost use Rattle.session_core.specs.Telling.{AreOf, AreAtMost};
-ghost use Rattle.session_core.specs.Conversations.{SessionEnds, scene_of, decided_of};
+ghost use Rattle.session_core.specs.Conversations.{SessionEnds, scene_at, decided_of};
 ghost use Rattle.session_core.specs.Turns.{TurnOut};
 
 use crate::answers::Answers;
 use crate::deciding::{Decision, decide};
-use crate::filling::{Filled, fill};
+use crate::filling::take_message;
 use crate::rooms::Rooms;
 use crate::session_end::SessionEnd;
 use crate::session_out::SessionOut;
@@ -25,7 +26,7 @@ use wire_protocol::spell_reply;
 fn send<W: Sink>(room: &mut Vec<u8>, reply: &Reply, sink: &mut W) -> Result<(), Failed>
     requires { REPLY_MAX ≤ vec_capacity room.old }
     ensures bytes { PutsFront (W.written sink.old) (W.written sink.new) result (reply_bytes reply.now) }
-    ensures cause { HasCause (W.faults sink.old) (W.faults sink.new) result }
+    ensures cause { HasCause OneFault (W.faults sink.old) (W.faults sink.new) result }
     ensures room { vec_capacity room.old ≤ vec_capacity room.new }
 {
     room.clear();
@@ -50,8 +51,8 @@ fn turn<A: Answers, R: Source, W: Sink>(
     requires books { AreOf A.books faults.old }
 
     ensures out { TurnOut result rooms.old.decoder rooms.new.decoder
-        (scene_of (R.left source.old) (W.written sink.old) (A.map pass.old) (A.counts pass.old) faults.old)
-        (scene_of (R.left source.new) (W.written sink.new) (A.map pass.new) (A.counts pass.new) faults.new) }
+        (scene_at A.Answers R.Source W.Sink pass.old source.old sink.old faults.old)
+        (scene_at A.Answers R.Source W.Sink pass.new source.new sink.new faults.new) }
     ensures begun { result ≢ Some SessionEnd.Memory }
     ensures spent { rooms.new.decoder.at ≤ SESSION_MAX }
     ensures books { AreOf A.books faults.new }
@@ -63,39 +64,14 @@ fn turn<A: Answers, R: Source, W: Sink>(
     ensures sink_failed { result ≡ Some SessionEnd.SinkFault → Rose (W.faults sink.old) (W.faults sink.new) }
     ensures sink_kept { result ≢ Some SessionEnd.SinkFault → W.faults sink.new ≡ W.faults sink.old }
 {
-    match fill(&mut rooms.decoder, &mut rooms.piece, source) {
-        Filled::Whole => {}
-        Filled::Ended => {
-            let at = rooms.decoder.place();
-            if rooms.decoder.taken() == at {
-                return Some(SessionEnd::End);
-            }
-            return Some(SessionEnd::Cut { at });
-        }
-        Filled::Failed => return Some(SessionEnd::SourceFault),
-        Filled::Spent => return Some(SessionEnd::Spent),
+    if let Err(end) = take_message(&mut rooms.decoder, source) {
+        return Some(end);
     }
-    match decide(answers, alloc, pass, faults, &mut rooms.decoder) {
-        Decision::Goes(reply) => {
-            let Ok(()) = send(&mut rooms.reply, &reply, sink) else {
-                return Some(SessionEnd::SinkFault);
-            };
-            None
-        }
-        Decision::Ends => {
-            let Ok(()) = send(&mut rooms.reply, &Reply::Bye, sink) else {
-                return Some(SessionEnd::SinkFault);
-            };
-            Some(SessionEnd::Quit)
-        }
-        Decision::Refuses { at, code } => {
-            let refusal = Reply::BadMessage { at, code };
-            let Ok(()) = send(&mut rooms.reply, &refusal, sink) else {
-                return Some(SessionEnd::SinkFault);
-            };
-            Some(SessionEnd::Bad { at, code })
-        }
-    }
+    let Decision { reply, end } = decide(answers, alloc, pass, faults, &mut rooms.decoder);
+    let Ok(()) = send(&mut rooms.reply, &reply, sink) else {
+        return Some(SessionEnd::SinkFault);
+    };
+    end
 }
 
 /// How many replies were decided in the turn that ended so.
@@ -113,9 +89,11 @@ fn decided_in(end: SessionEnd) -> u64
 fn pass_on<W: Sink>(end: SessionEnd, sink: &mut W) -> SessionEnd
     ensures bytes { W.written sink.new ≡ W.written sink.old }
     ensures end { result ≢ SessionEnd.SinkFault → result ≡ end }
-    ensures ended { end ≡ SessionEnd.SinkFault → (result ≡ SessionEnd.SinkFault) × (W.faults sink.new ≡ W.faults sink.old) }
+    ensures ended { end ≡ SessionEnd.SinkFault →
+        (result ≡ SessionEnd.SinkFault) × (W.faults sink.new ≡ W.faults sink.old) }
     ensures later { W.faults sink.old ≤ W.faults sink.new }
-    ensures failed { end ≢ SessionEnd.SinkFault → result ≡ SessionEnd.SinkFault → Rose (W.faults sink.old) (W.faults sink.new) }
+    ensures failed { end ≢ SessionEnd.SinkFault → result ≡ SessionEnd.SinkFault →
+        Rose (W.faults sink.old) (W.faults sink.new) }
     ensures kept { result ≢ SessionEnd.SinkFault → W.faults sink.new ≡ W.faults sink.old }
 {
     if end == SessionEnd::SinkFault {
@@ -129,7 +107,7 @@ fn pass_on<W: Sink>(end: SessionEnd, sink: &mut W) -> SessionEnd
 
 /// Serves one session: takes requests, answers each, and puts the replies, until the session ends.
 ///
-/// A session takes the memory of its own before its first byte; after that want of memory is a reply.
+/// A session takes its own memory before its first byte. After that, being out of memory is a reply.
 pub fn run_session<A: Answers, R: Source, W: Sink>(
     alloc: Global,
     answers: &A,
@@ -141,8 +119,9 @@ pub fn run_session<A: Answers, R: Source, W: Sink>(
 
     // What came, what was put, what the map is then, and which failures were told.
     ensures out { SessionEnds result.end 0
-        (scene_of (R.left source.old) (W.written sink.old) (A.map pass.old) (A.counts pass.old) [])
-        (scene_of (R.left source.new) (W.written sink.new) (A.map pass.new) (A.counts pass.new) result.faults) result.replies }
+        (scene_at A.Answers R.Source W.Sink pass.old source.old sink.old [])
+        (scene_at A.Answers R.Source W.Sink pass.new source.new sink.new result.faults)
+        result.replies }
 
     // The units are of the store's own books.
     ensures books { AreOf A.books result.faults }
@@ -152,7 +131,8 @@ pub fn run_session<A: Answers, R: Source, W: Sink>(
     ensures source_failed { result.end ≡ SessionEnd.SourceFault → Rose (R.faults source.old) (R.faults source.new) }
     ensures sink_later { W.faults sink.old ≤ W.faults sink.new }
     ensures sink_failed { result.end ≡ SessionEnd.SinkFault → Rose (W.faults sink.old) (W.faults sink.new) }
-    ensures source_kept { result.end ≢ SessionEnd.SourceFault → result.end ≢ SessionEnd.SinkFault → R.faults source.new ≡ R.faults source.old }
+    ensures source_kept { result.end ≢ SessionEnd.SourceFault → result.end ≢ SessionEnd.SinkFault →
+        R.faults source.new ≡ R.faults source.old }
     ensures sink_kept { result.end ≢ SessionEnd.SinkFault → W.faults sink.new ≡ W.faults sink.old }
 {
     let mut faults = FaultPile::new();

@@ -1,9 +1,11 @@
 //! Whole sessions over a store of one row: their bytes, their ends, and what their faults leave.
 
 mod dripping;
+mod holding;
 mod one_row;
 
 use crate::tests::dripping::Dripping;
+use crate::tests::holding::Holding;
 use crate::tests::one_row::{OneRow, OneRowPass};
 use crate::{SessionEnd, SessionOut, run_session};
 use disk_model::FaultBook;
@@ -35,7 +37,8 @@ fn serve<R: Source, W: Sink>(
     Ok(run_session(alloc, &OneRow, &mut pass, source, sink))
 }
 
-/// The session over this input puts this output and ends so, also where its bytes come one at a time.
+/// The session over this input puts this output and ends so. It does the same where its bytes come one at a time, and
+/// then its sink holds nothing back.
 fn ends(
     rt: &(impl Abort + AllocGlobal),
     input: &[u8],
@@ -54,9 +57,14 @@ fn ends(
 
     let bytes = SteadySource::new(Vec::from_slice(alloc, input)?);
     let mut source = Dripping { bytes };
-    let mut sink = SteadySink::new(alloc, 100)?;
+    let bytes = SteadySink::new(alloc, 100)?;
+    let mut sink = Holding {
+        bytes,
+        is_holding: true,
+    };
     let out = serve(alloc, false, &mut source, &mut sink)?;
-    assert_eq!(rt; sink.as_bytes(), output);
+    assert_eq!(rt; sink.bytes.as_bytes(), output);
+    assert!(rt; !sink.is_holding);
     assert_eq!(rt; (out.end, out.replies), (end, replies));
     assert_eq!(rt; source.bytes.remaining(), left);
     Ok(())
@@ -126,7 +134,7 @@ fn a_failed_device_is_told_with_one_unit(rt: HostRuntime) -> Result<(), Fail> {
 }
 
 #[test]
-fn a_failed_put_ends_a_session_behind_a_front_of_the_replies(rt: HostRuntime) -> Result<(), Fail> {
+fn a_failed_put_ends_a_session_after_a_front_of_the_replies(rt: HostRuntime) -> Result<(), Fail> {
     let alloc = rt.alloc();
     for (room, failing, len, replies) in [(100, 1, 13, 2), (10, 9, 10, 1), (100, 3, 36, 3)] {
         let mut source = SteadySource::new(Vec::from_slice(alloc, SCRIPT)?);

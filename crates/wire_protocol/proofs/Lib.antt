@@ -1,4 +1,4 @@
 pub mod ReadingLemmas
-pub mod Feeding
-pub mod Whole
-pub mod Replies
+pub mod FeedingLemmas
+pub mod MessageLemmas
+pub mod ReplyLemmas

@@ -1,4 +1,5 @@
--- Reading and spelling are inverse: what is read is spelled so, and what is spelled so is read.
+-- Reading and spelling are inverse. To know: `request_takes` (what is read is spelled so), `request_again` (what is
+-- spelled so is read).
 use Rattle.rdb_base.specs.declared.limits.TheConstants.{KEY_MAX, VALUE_MAX}
 use Rattle.std.proofs.Common.{◌≡◌, ℕ, suc, ◌+◌, ◌^◌, ◌<◌, ◌≤◌, Bool, true, false, cond, eqb, ltb, List, [], ◌∷◌, ◌++◌, length, take, drop, Result, Ok, Err, refl, sym, ap, subst, ◌∙◌, append_assoc, arith, inl, inr, ◌⊎◌}
 use Rattle.std.specs.Int.{Width, w16, w32, byte_len, from_be_bytes, to_be_bytes}
@@ -9,7 +10,8 @@ use Rattle.std.proofs.lemmas.Nat.{be_bytes_2, be_bytes_4, from_be_bytes-to_be_by
 use Rattle.rdb_base.specs.Lengths.{IsKeyLength, IsValueLength}
 use Rattle.history_core.specs.declared.request.Request.{Request}
 use Rattle.history_core.specs.declared.request.Request.TheVariants.{Put, Get, Quit}
-use Rattle.wire_protocol.specs.Bytes.{AreBytes}
+use Rattle.wire_protocol.specs.declared.codes.TheConstants as codes
+use Rattle.rdb_base.specs.Bytes.{AreBytes}
 use Rattle.wire_protocol.specs.Grammar.{key_field, value_field, request_body, IsRequest}
 use Rattle.wire_protocol.specs.Reading.{◌>>=◌, number_at, bytes_at, key_at, value_at, ended, put_at, get_at, request_at}
 
@@ -84,7 +86,7 @@ wide32 = record {
 
 bytes_take : (n : ℕ) (bytes text rest : List ℕ) → AreBytes bytes → bytes_at n bytes ≡ Ok (text, rest) → Takes bytes text rest × (length text ≡ n)
 bytes_take n bytes text rest fits e =
-    let p = passed (ltb (length bytes) n) 3 (Ok (take n bytes, drop n bytes)) (text, rest) e in
+    let p = passed (ltb (length bytes) n) codes.CUT_FIELD (Ok (take n bytes, drop n bytes)) (text, rest) e in
     let long : n ≤ length bytes = ltb-false _ _ p.0 in
     let both = good_is (take n bytes, drop n bytes) (text, rest) p.1 in
     let len : length (take n bytes) ≡ n = omega (arith, length-take n bytes) in
@@ -98,7 +100,7 @@ bytes_again text rest =
 
 number_takes : (w : Width) (limit : ℕ) (wide : IsWide w limit) (bytes : List ℕ) (x : ℕ × List ℕ) → AreBytes bytes → number_at w bytes ≡ Ok x → Takes bytes (to_be_bytes w x.0) x.1 × (x.0 < limit)
 number_takes w limit wide bytes x fits e =
-    let p = passed (ltb (length bytes) (byte_len w)) 3 (Ok (from_be_bytes w (take (byte_len w) bytes), drop (byte_len w) bytes)) x e in
+    let p = passed (ltb (length bytes) (byte_len w)) codes.CUT_FIELD (Ok (from_be_bytes w (take (byte_len w) bytes), drop (byte_len w) bytes)) x e in
     let long : byte_len w ≤ length bytes = ltb-false _ _ p.0 in
     let both = good_is (from_be_bytes w (take (byte_len w) bytes), drop (byte_len w) bytes) x p.1 in
     let front_fits = AreBytes-take (byte_len w) bytes fits in
@@ -121,11 +123,11 @@ not_zero m h = grind (arith, nat_tests)
 key_takes : (bytes : List ℕ) (x : List ℕ × List ℕ) → AreBytes bytes → key_at bytes ≡ Ok x → Takes bytes (key_field x.0) x.1 × IsKeyLength (length x.0)
 unfolding key_at
 key_takes bytes x fits e =
-    let a = went_well (number_at w16 bytes) (λ n. cond (eqb n.0 0) (Err 4) (cond (ltb KEY_MAX n.0) (Err 4) (bytes_at n.0 n.1))) x e in
+    let a = went_well (number_at w16 bytes) (λ n. cond (eqb n.0 0) (Err codes.BAD_KEY) (cond (ltb KEY_MAX n.0) (Err codes.BAD_KEY) (bytes_at n.0 n.1))) x e in
     let n = a.0 in
     let one = number_takes w16 (2 ^ 16) wide16 bytes n fits a.1 in
-    let p = passed (eqb n.0 0) 4 (cond (ltb KEY_MAX n.0) (Err 4) (bytes_at n.0 n.1)) x a.2 in
-    let q = passed (ltb KEY_MAX n.0) 4 (bytes_at n.0 n.1) x p.1 in
+    let p = passed (eqb n.0 0) codes.BAD_KEY (cond (ltb KEY_MAX n.0) (Err codes.BAD_KEY) (bytes_at n.0 n.1)) x a.2 in
+    let q = passed (ltb KEY_MAX n.0) codes.BAD_KEY (bytes_at n.0 n.1) x p.1 in
     let two = bytes_take n.0 n.1 x.0 x.1 one.0.rest_fits q.1 in
     let both = Takes-then bytes (to_be_bytes w16 n.0) n.1 x.0 x.1 one.0 two.0 in
     let low : 1 ≤ n.0 = not_zero n.0 p.0 in
@@ -142,10 +144,10 @@ key_again key rest fits =
 value_takes : (bytes : List ℕ) (x : List ℕ × List ℕ) → AreBytes bytes → value_at bytes ≡ Ok x → Takes bytes (value_field x.0) x.1 × IsValueLength (length x.0)
 unfolding value_at
 value_takes bytes x fits e =
-    let a = went_well (number_at w32 bytes) (λ n. cond (ltb VALUE_MAX n.0) (Err 5) (bytes_at n.0 n.1)) x e in
+    let a = went_well (number_at w32 bytes) (λ n. cond (ltb VALUE_MAX n.0) (Err codes.BAD_VALUE) (bytes_at n.0 n.1)) x e in
     let n = a.0 in
     let one = number_takes w32 (2 ^ 32) wide32 bytes n fits a.1 in
-    let q = passed (ltb VALUE_MAX n.0) 5 (bytes_at n.0 n.1) x a.2 in
+    let q = passed (ltb VALUE_MAX n.0) codes.BAD_VALUE (bytes_at n.0 n.1) x a.2 in
     let two = bytes_take n.0 n.1 x.0 x.1 one.0.rest_fits q.1 in
     let both = Takes-then bytes (to_be_bytes w32 n.0) n.1 x.0 x.1 one.0 two.0 in
     let high : n.0 ≤ VALUE_MAX = ltb-false _ _ q.0 in
@@ -165,10 +167,10 @@ record Spells (rest : List ℕ) (fields : Request → List ℕ) (request : Reque
 
 ended_takes : (asked request : Request) (rest : List ℕ) → ended asked rest ≡ Ok request → (asked ≡ request) × (rest ≡ [])
 ended_takes asked request rest e =
-    let p = held_at_end (eqb (length rest) 0) 7 asked request e in
+    let p = held_at_end (eqb (length rest) 0) codes.TRAILING_BYTES asked request e in
     (p.1, nil_from_length rest (eqb-true _ _ p.0))
 
-put_takes : (bytes : List ℕ) (request : Request) → AreBytes bytes → put_at bytes ≡ Ok request → (1 ∷ bytes ≡ request_body request) × IsRequest request
+put_takes : (bytes : List ℕ) (request : Request) → AreBytes bytes → put_at bytes ≡ Ok request → (codes.PUT ∷ bytes ≡ request_body request) × IsRequest request
 unfolding put_at
 put_takes bytes request fits e =
     let a = went_well (key_at bytes) (λ key. value_at key.1 >>= λ value. ended (Put (record { key = key.0; value = value.0 })) value.1) request e in
@@ -178,16 +180,16 @@ put_takes bytes request fits e =
     let two = value_takes a.0.1 b.0 one.0.rest_fits b.1 in
     let both = Takes-then bytes (key_field a.0.0) a.0.1 (value_field b.0.0) b.0.1 one.0 two.0 in
     let whole : bytes ≡ key_field a.0.0 ++ value_field b.0.0 = both.parts ∙ ap (λ (t : List ℕ). (key_field a.0.0 ++ value_field b.0.0) ++ t) c.1 ∙ append-nil (key_field a.0.0 ++ value_field b.0.0) in
-    subst (λ (r : Request). (1 ∷ bytes ≡ request_body r) × IsRequest r) c.0 (ap (λ (t : List ℕ). 1 ∷ t) whole, (one.1, two.1))
+    subst (λ (r : Request). (codes.PUT ∷ bytes ≡ request_body r) × IsRequest r) c.0 (ap (λ (t : List ℕ). codes.PUT ∷ t) whole, (one.1, two.1))
 
-get_takes : (bytes : List ℕ) (request : Request) → AreBytes bytes → get_at bytes ≡ Ok request → (3 ∷ bytes ≡ request_body request) × IsRequest request
+get_takes : (bytes : List ℕ) (request : Request) → AreBytes bytes → get_at bytes ≡ Ok request → (codes.GET ∷ bytes ≡ request_body request) × IsRequest request
 unfolding get_at
 get_takes bytes request fits e =
     let a = went_well (key_at bytes) (λ key. ended (Get key.0) key.1) request e in
     let c = ended_takes (Get a.0.0) request a.0.1 a.2 in
     let one = key_takes bytes a.0 fits a.1 in
     let whole : bytes ≡ key_field a.0.0 = one.0.parts ∙ ap (λ (t : List ℕ). key_field a.0.0 ++ t) c.1 ∙ append-nil (key_field a.0.0) in
-    subst (λ (r : Request). (3 ∷ bytes ≡ request_body r) × IsRequest r) c.0 (ap (λ (t : List ℕ). 3 ∷ t) whole, one.1)
+    subst (λ (r : Request). (codes.GET ∷ bytes ≡ request_body r) × IsRequest r) c.0 (ap (λ (t : List ℕ). codes.GET ∷ t) whole, one.1)
 
 -- what is read is spelled so
 pub request_takes : (body : List ℕ) (request : Request) → AreBytes body → request_at body ≡ Ok request → (body ≡ request_body request) × IsRequest request
@@ -195,18 +197,18 @@ unfolding request_at
 request_takes [] request fits e = absurd cc
 request_takes (code ∷ rest) request fits e =
     let rest_fits = AreBytes-rest code rest fits in
-    elim (chosen (eqb code 1) (put_at rest) (cond (eqb code 3) (get_at rest) (cond (eqb code 9) (ended Quit rest) (Err 2))) (Ok request) e) [
+    elim (chosen (eqb code codes.PUT) (put_at rest) (cond (eqb code codes.GET) (get_at rest) (cond (eqb code codes.QUIT) (ended Quit rest) (Err codes.NO_REQUEST))) (Ok request) e) [
       | inl p ↦ rw (eqb-true _ _ p.0) (put_takes rest request rest_fits p.1)
-      | inr p ↦ elim (chosen (eqb code 3) (get_at rest) (cond (eqb code 9) (ended Quit rest) (Err 2)) (Ok request) p.1) [
+      | inr p ↦ elim (chosen (eqb code codes.GET) (get_at rest) (cond (eqb code codes.QUIT) (ended Quit rest) (Err codes.NO_REQUEST)) (Ok request) p.1) [
         | inl q ↦ rw (eqb-true _ _ q.0) (get_takes rest request rest_fits q.1)
         | inr q ↦
-            let h = held_quit (eqb code 9) q.1 in
+            let h = held_quit (eqb code codes.QUIT) q.1 in
             let c = ended_takes Quit request rest h.1 in
             rw (eqb-true _ _ h.0, c.1, ← c.0) (refl, tt)
       ]
     ]
   where
-    held_quit : (b : Bool) → cond b (ended Quit rest) (Err 2) ≡ Ok request → (b ≡ true) × (ended Quit rest ≡ Ok request)
+    held_quit : (b : Bool) → cond b (ended Quit rest) (Err codes.NO_REQUEST) ≡ Ok request → (b ≡ true) × (ended Quit rest ≡ Ok request)
     held_quit true e = (refl, e)
     held_quit false e = absurd cc
 

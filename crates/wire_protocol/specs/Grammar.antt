@@ -8,48 +8,57 @@ use Rattle.history_core.specs.declared.request.Request.{Request}
 use Rattle.history_core.specs.declared.request.Request.TheVariants.{Put, Get, Quit}
 use Rattle.history_core.specs.declared.reply.Reply.{Reply}
 use Rattle.history_core.specs.declared.reply.Reply.TheVariants as replies
+use Rattle.wire_protocol.specs.declared.codes.TheConstants as codes
 
+-- a key after its length
 abbrev pub key_field : List ℕ → List ℕ
 key_field key = to_be_bytes w16 (length key) ++ key
 
+-- a value after its length
 abbrev pub value_field : List ℕ → List ℕ
 value_field value = to_be_bytes w32 (length value) ++ value
 
+-- a key and its value
 abbrev pub row_field : Row → List ℕ
 row_field row = key_field row.key ++ value_field row.value
 
+-- a request's code and its fields
 abbrev pub request_body : Request → List ℕ
-request_body (Put row) = 0x01 ∷ row_field row
-request_body (Get key) = 0x03 ∷ key_field key
-request_body Quit = 0x09 ∷ []
+request_body (Put row) = codes.PUT ∷ row_field row
+request_body (Get key) = codes.GET ∷ key_field key
+request_body Quit = codes.QUIT ∷ []
 
+-- a reply's code and its fields
 abbrev pub reply_body : Reply → List ℕ
-reply_body (replies.Done number) = 0x81 ∷ to_be_bytes w64 number
-reply_body (replies.Value front value) = 0x82 ∷ (to_be_bytes w64 front ++ value_field value)
-reply_body (replies.Absent front) = 0x83 ∷ to_be_bytes w64 front
-reply_body replies.Bye = 0x89 ∷ []
-reply_body (replies.BadMessage at code) = 0xE1 ∷ (to_be_bytes w64 at ++ code ∷ [])
-reply_body (replies.DeviceFault device) = 0xE4 ∷ device ∷ []
-reply_body replies.OutOfMemory = 0xE5 ∷ []
+reply_body (replies.Done number) = codes.DONE ∷ to_be_bytes w64 number
+reply_body (replies.Value front value) = codes.VALUE ∷ (to_be_bytes w64 front ++ value_field value)
+reply_body (replies.Absent front) = codes.ABSENT ∷ to_be_bytes w64 front
+reply_body replies.Bye = codes.BYE ∷ []
+reply_body (replies.BadMessage at code) = codes.BAD_MESSAGE ∷ (to_be_bytes w64 at ++ code ∷ [])
+reply_body (replies.DeviceFault device) = codes.DEVICE_FAULT ∷ device ∷ []
+reply_body replies.OutOfMemory = codes.OUT_OF_MEMORY ∷ []
 
--- a body behind its length
+-- a body after its length
 abbrev pub message : List ℕ → List ℕ
 message body = to_be_bytes w32 (length body) ++ body
 
+-- the message of a request
 abbrev pub spell_request : Request → List ℕ
 spell_request request = message (request_body request)
 
+-- the message of a reply
 abbrev pub spell_reply : Reply → List ℕ
 spell_reply reply = message (reply_body reply)
 
--- a list is spelled one after another
+-- requests are spelled one after another
 abbrev pub spell_requests : List Request → List ℕ
 spell_requests requests = flat_map spell_request requests
 
+-- replies are spelled one after another
 abbrev pub spell_replies : List Reply → List ℕ
 spell_replies replies = flat_map spell_reply replies
 
--- what has a spelling
+-- a request's key and value have lengths that a request may have
 abbrev pub IsRequest : Request → Type 0
 IsRequest (Put row) = IsKeyLength (length row.key) × IsValueLength (length row.value)
 IsRequest (Get key) = IsKeyLength (length key)

@@ -1,6 +1,6 @@
-pub mod Bytes
 pub mod Grammar
 pub mod Reading
 pub mod Messages
-pub mod Answer
-pub mod Apart
+pub mod Filling
+pub mod Decoding
+pub mod Laws

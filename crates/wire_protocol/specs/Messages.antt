@@ -8,22 +8,29 @@ pub record Held : Type 0 where
   pub at : ℕ
   pub bytes : List ℕ
 
+-- the length that the first four bytes of a message give its body
 abbrev pub body_length : List ℕ → ℕ
 body_length bytes = from_be_bytes w32 (take 4 bytes)
 
+-- no body has this length
 abbrev pub is_refused_length : ℕ → Bool
 is_refused_length n = (n == 0) || nat_lt BODY_MAX n
 
--- how many bytes the length, or else the body, still lacks; a refused length lacks none
+-- how many bytes the length still lacks, or the body once the length is there; a refused length lacks none
 abbrev pub wanted : List ℕ → ℕ
-wanted bytes = if nat_lt (length bytes) 4 then 4 - length bytes else if is_refused_length (body_length bytes) then 0 else 4 + body_length bytes - length bytes
+wanted bytes =
+    if nat_lt (length bytes) 4 then 4 - length bytes
+    else if is_refused_length (body_length bytes) then 0
+    else 4 + body_length bytes - length bytes
 
--- no more than one message
+-- these bytes are no more than one message
 abbrev pub IsWithin : List ℕ → Type 0
-IsWithin bytes = 4 < length bytes → (1 ≤ body_length bytes) × (body_length bytes ≤ BODY_MAX) × (length bytes ≤ 4 + body_length bytes)
+IsWithin bytes = 4 < length bytes →
+    (1 ≤ body_length bytes) × (body_length bytes ≤ BODY_MAX) × (length bytes ≤ 4 + body_length bytes)
 
--- what a decoder keeps
-pub record IsHeld (at : ℕ) (bytes : List ℕ) (capacity : ℕ) : Type 0 where
-  pub within : IsWithin bytes
-  pub room : MESSAGE_MAX ≤ capacity
-  pub place : at + length bytes ≤ 2 ^ 63
+-- what a decoder keeps: its memory has room for the largest message, and the held bytes stand at the front of it
+pub record IsHeld (at len : ℕ) (memory : List ℕ) : Type 0 where
+  pub within : IsWithin (take len memory)
+  pub front : len ≤ length memory
+  pub room : MESSAGE_MAX ≤ length memory
+  pub place : at + len ≤ 2 ^ 63

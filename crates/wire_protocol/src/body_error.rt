@@ -3,7 +3,7 @@ ghost use Rattle.wire_protocol.specs.declared.body_error.BodyError.TheVariants.{
 
 use crate::refused::Refused;
 
-/// Why a body is no request: the code of the first test that fails, or want of memory.
+/// Why a body gives no request: the code of the first test that it fails, or no memory.
 #[derive(Clone, Copy, Debug, PartialEq, Eq)]
 pub enum BodyError {
     Bad(u8),

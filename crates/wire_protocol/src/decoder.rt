@@ -1,12 +1,18 @@
-ghost use Rattle.std.specs.Prelude.{◌≡◌, ◌+◌, ◌≤◌, ◌<◌, ◌^◌, ◌++◌, [], length, take, IfOk, Ok, Some, None};
+//! One message after another, from bytes that come in any pieces.
+ghost use Rattle.std.specs.Prelude.{◌≡◌, ◌+◌, ◌≤◌, ◌<◌, ◌^◌, ◌++◌, [], length, take, IfOk, OnErr, Ok, Some, None};
+ghost use Rattle.fault_count.specs.Causes.{HasCause};
+ghost use Rattle.link_model.specs.Streams.{OneFault};
 ghost use Rattle.wire_protocol.specs.Messages.{wanted, body_length, IsWithin};
-ghost use Rattle.wire_protocol.specs.Answer.{MessageAnswer, DecoderAnswer};
+ghost use Rattle.wire_protocol.specs.Decoding.{MessageAnswer, DecoderAnswer, Takes, next_message};
 
 use crate::body_error::BodyError;
-use crate::limits::{BODY_MAX, MESSAGE_MAX};
+use crate::codes::BAD_LENGTH;
+use crate::filling::{put_after, take_after};
+use crate::limits::{BODY_MAX, LENGTH_SIZE, MESSAGE_MAX};
 use crate::reading::request_of;
 use crate::wire_error::WireError;
 use history_core::Request;
+use link_model::{Failed, Source};
 use rdb_base::NoMemory;
 use std::alloc::Global;
 use std::marker::Model;
@@ -15,18 +21,19 @@ use std::marker::Model;
 #[derive(Drop)]
 pub struct Decoder {
     at: u64,
-    held: Vec<u8>,
+    len: usize,
+    memory: Vec<u8>,
 }
 
 impl Model for Decoder {
+    ghost use Rattle.std.specs.Prelude.{take};
     ghost use Rattle.wire_protocol.specs.Messages.{Held, IsHeld};
-    ghost use Rattle.std.specs.Prelude.{vec_capacity};
 
     ghost Value = { Held };
 
-    ghost view = { λ d. record { at = d.at; bytes = d.held.items } };
+    ghost view = { λ d. record { at = d.at; bytes = take d.len d.memory.items } };
 
-    ghost invariant = { λ d. IsHeld d.at d.held.items (vec_capacity d.held) };
+    ghost invariant = { λ d. IsHeld d.at d.len d.memory.items };
 }
 
 fn length_of(bytes: &[u8]) -> usize
@@ -40,14 +47,14 @@ fn wanted_of(bytes: &[u8]) -> usize
     requires { IsWithin bytes.now }
     ensures { result ≡ wanted bytes.now }
 {
-    if bytes.len() < 4 {
-        return 4 - bytes.len();
+    if bytes.len() < LENGTH_SIZE {
+        return LENGTH_SIZE - bytes.len();
     }
     let body = length_of(bytes);
     if body == 0 || body > BODY_MAX {
         return 0;
     }
-    4 + body - bytes.len()
+    LENGTH_SIZE + body - bytes.len()
 }
 
 fn message_of(alloc: Global, held: &[u8]) -> Result<Option<Request>, BodyError>
@@ -59,9 +66,9 @@ fn message_of(alloc: Global, held: &[u8]) -> Result<Option<Request>, BodyError>
     }
     let len = length_of(held);
     if len == 0 || len > BODY_MAX {
-        return Err(BodyError::Bad(1));
+        return Err(BodyError::Bad(BAD_LENGTH));
     }
-    let (_, body) = held.split_at(4);
+    let (_, body) = held.split_at(LENGTH_SIZE);
     match request_of(alloc, body) {
         Ok(request) => Ok(Some(request)),
         Err(error) => Err(error),
@@ -73,15 +80,19 @@ impl Decoder {
     pub fn make(alloc: Global) -> Result<Decoder, NoMemory>
         ensures { IfOk result (λ d. d ≡ record { at = 0; bytes = [] }) }
     {
-        let held = Vec::with_capacity(alloc, MESSAGE_MAX)?;
-        Ok(Decoder { at: 0, held })
+        let memory = Vec::from_elem(alloc, 0, MESSAGE_MAX)?;
+        Ok(Decoder {
+            at: 0,
+            len: 0,
+            memory,
+        })
     }
 
     /// How many bytes of the input came.
     pub fn taken(&self) -> u64
         ensures { result ≡ self.now.at + length self.now.bytes }
     {
-        self.at + self.held.len() as u64
+        self.at + self.len as u64
     }
 
     /// Where in the input the message begins.
@@ -91,15 +102,24 @@ impl Decoder {
         self.at
     }
 
-    /// How many bytes the length, or else the body, still lacks. It is 0 where a whole message is held,
-    /// or its length is refused.
+    fn held(&self) -> &[u8]
+        ensures bytes { result.now ≡ self.now.bytes }
+        ensures within { IsWithin result.now }
+    {
+        let (held, _) = self.memory.as_slice().split_at(self.len);
+        held
+    }
+
+    /// How many bytes the length still lacks, or the body once the length is there. It is 0 where a whole message is
+    /// held, or its length is refused.
     pub fn want(&self) -> usize
         ensures wanted { result ≡ wanted self.now.bytes }
         ensures most { result ≤ BODY_MAX }
         ensures room { length self.now.bytes + result ≤ MESSAGE_MAX }
         ensures place { self.now.at + length self.now.bytes ≤ 2 ^ 63 }
     {
-        wanted_of(self.held.as_slice())
+        let _at = self.at;
+        wanted_of(self.held())
     }
 
     fn hold(&mut self, part: &[u8])
@@ -107,7 +127,8 @@ impl Decoder {
         requires most { self.old.at + (length self.old.bytes + length part.now) ≤ 2 ^ 63 }
         ensures { self.new ≡ record { at = self.old.at; bytes = self.old.bytes ++ part.now } }
     {
-        self.held.extend_from_slice(part).unwrap();
+        put_after(&mut self.memory, self.len, part);
+        self.len += part.len();
     }
 
     /// Takes the whole piece, or as much as the message at hand lacks where that is less.
@@ -127,11 +148,28 @@ impl Decoder {
         first + second
     }
 
-    /// The request of the held message, which is then dropped, if it is whole.
+    /// Lets a source fill what the length or the body still lacks, in one call of it, and answers how many bytes came:
+    /// at most `most`, and none only at the end of the input.
+    pub fn take_from<R: Source>(&mut self, source: &mut R, most: usize) -> Result<usize, Failed>
+        requires lacks { 0 < wanted self.old.bytes }
+        requires some { 0 < most }
+        requires place { self.old.at + (length self.old.bytes + most) ≤ 2 ^ 63 }
+        ensures taken { IfOk result (Takes self.old (R.left source.old) self.new (R.left source.new) most) }
+        ensures kept { OnErr result (self.new ≡ self.old) }
+        ensures left { OnErr result (R.left source.new ≡ R.left source.old) }
+        ensures cause { HasCause OneFault (R.faults source.old) (R.faults source.new) result }
+    {
+        let end = self.len + self.want().min(most);
+        let count = take_after(&mut self.memory, self.len, end, source)?;
+        self.len += count;
+        Ok(count)
+    }
+
+    /// The request of the held message, if it is whole. The message is then dropped.
     pub fn request(&mut self, alloc: Global) -> Result<Option<Request>, WireError>
         ensures { DecoderAnswer self.old result self.new }
     {
-        match message_of(alloc, self.held.as_slice()) {
+        match message_of(alloc, self.held()) {
             Ok(None) => Ok(None),
             Ok(Some(request)) => {
                 self.next();
@@ -146,9 +184,9 @@ impl Decoder {
     }
 
     fn next(&mut self)
-        ensures { self.new ≡ record { at = self.old.at + length self.old.bytes; bytes = [] } }
+        ensures { self.new ≡ next_message self.old }
     {
-        self.at += self.held.len() as u64;
-        self.held.clear();
+        self.at += self.len as u64;
+        self.len = 0;
     }
 }

@@ -1,9 +1,14 @@
+//! The fields of a body read from left to right, each test in its order.
 ghost use Rattle.std.specs.Prelude.{◌≡◌, [], ◌∷◌, IfOk, IsOk, IsErrOf, Ok};
 ghost use Rattle.std.specs.Int.{w16, w32};
 ghost use Rattle.wire_protocol.specs.Reading.{Gives, GivesField, SpellsRequest, number_at, bytes_at, key_at, value_at, put_at, get_at, request_at};
 ghost use Rattle.wire_protocol.specs.Grammar.{request_body, IsRequest};
+ghost use Rattle.wire_protocol.specs.declared.codes.TheConstants.{QUIT};
 
 use crate::body_error::BodyError;
+use crate::codes::{
+    BAD_KEY, BAD_LENGTH, BAD_VALUE, CUT_FIELD, GET, NO_REQUEST, PUT, QUIT, TRAILING_BYTES,
+};
 use crate::refused::Refused;
 use history_core::Request;
 use rdb_base::{KEY_MAX, Key, Row, VALUE_MAX, Value};
@@ -13,7 +18,7 @@ fn u16_at(bytes: &[u8]) -> Result<(u16, &[u8]), Refused>
     ensures { GivesField (λ x. (x.0, x.1.now)) result (number_at w16 bytes.now) }
 {
     if bytes.len() < 2 {
-        return Err(Refused { code: 3 });
+        return Err(Refused { code: CUT_FIELD });
     }
     let (front, rest) = bytes.split_at(2);
     Ok((u16::from_be_bytes([front[0], front[1]]), rest))
@@ -23,7 +28,7 @@ fn u32_at(bytes: &[u8]) -> Result<(u32, &[u8]), Refused>
     ensures { GivesField (λ x. (x.0, x.1.now)) result (number_at w32 bytes.now) }
 {
     if bytes.len() < 4 {
-        return Err(Refused { code: 3 });
+        return Err(Refused { code: CUT_FIELD });
     }
     let (front, rest) = bytes.split_at(4);
     Ok((
@@ -36,7 +41,7 @@ fn slice_at(len: usize, bytes: &[u8]) -> Result<(&[u8], &[u8]), Refused>
     ensures { GivesField (λ x. (x.0.now, x.1.now)) result (bytes_at len bytes.now) }
 {
     if bytes.len() < len {
-        return Err(Refused { code: 3 });
+        return Err(Refused { code: CUT_FIELD });
     }
     Ok(bytes.split_at(len))
 }
@@ -48,10 +53,10 @@ fn key_of(bytes: &[u8]) -> Result<(&[u8], &[u8]), Refused>
     let (len, rest) = u16_at(bytes)?;
     let len = len as usize;
     if len == 0 {
-        return Err(Refused { code: 4 });
+        return Err(Refused { code: BAD_KEY });
     }
     if len > KEY_MAX {
-        return Err(Refused { code: 4 });
+        return Err(Refused { code: BAD_KEY });
     }
     slice_at(len, rest)
 }
@@ -63,7 +68,7 @@ fn value_of(bytes: &[u8]) -> Result<(&[u8], &[u8]), Refused>
     let (len, rest) = u32_at(bytes)?;
     let len = len as usize;
     if len > VALUE_MAX {
-        return Err(Refused { code: 5 });
+        return Err(Refused { code: BAD_VALUE });
     }
     slice_at(len, rest)
 }
@@ -76,7 +81,7 @@ fn put_of(alloc: Global, bytes: &[u8]) -> Result<Request, BodyError>
     let (key, rest) = key_of(bytes)?;
     let (value, rest) = value_of(rest)?;
     if !rest.is_empty() {
-        return Err(BodyError::Bad(7));
+        return Err(BodyError::Bad(TRAILING_BYTES));
     }
     let Ok(key) = Key::try_new(alloc, key) else {
         return Err(BodyError::Memory);
@@ -96,7 +101,7 @@ fn get_of(alloc: Global, bytes: &[u8]) -> Result<Request, BodyError>
 {
     let (key, rest) = key_of(bytes)?;
     if !rest.is_empty() {
-        return Err(BodyError::Bad(7));
+        return Err(BodyError::Bad(TRAILING_BYTES));
     }
     let Ok(key) = Key::try_new(alloc, key) else {
         return Err(BodyError::Memory);
@@ -107,22 +112,22 @@ fn get_of(alloc: Global, bytes: &[u8]) -> Result<Request, BodyError>
 #[tactic(auto, unfolding(crate::specs::Reading::request_at))]
 fn body_of(alloc: Global, body: &[u8]) -> Result<Request, BodyError>
     ensures exact { Gives (λ x. x) result (request_at body.now) }
-    ensures quit { body.now ≡ 0x09 ∷ [] → result ≡ Ok Request.Quit }
+    ensures quit { body.now ≡ QUIT ∷ [] → result ≡ Ok Request.Quit }
     ensures memory { IsErrOf result BodyError.Memory → IsOk (request_at body.now) }
 {
     let [code, rest @ ..] = body else {
-        return Err(BodyError::Bad(1));
+        return Err(BodyError::Bad(BAD_LENGTH));
     };
     match *code {
-        0x01 => put_of(alloc, rest),
-        0x03 => get_of(alloc, rest),
-        0x09 => {
+        PUT => put_of(alloc, rest),
+        GET => get_of(alloc, rest),
+        QUIT => {
             if !rest.is_empty() {
-                return Err(BodyError::Bad(7));
+                return Err(BodyError::Bad(TRAILING_BYTES));
             }
             Ok(Request::Quit)
         }
-        _ => Err(BodyError::Bad(2)),
+        _ => Err(BodyError::Bad(NO_REQUEST)),
     }
 }
 
@@ -131,10 +136,11 @@ pub fn request_of(alloc: Global, body: &[u8]) -> Result<Request, BodyError>
     // What is read is spelled so.
     ensures found { IfOk result (λ request. (body.now ≡ request_body request) × IsRequest request) }
     // What is spelled so is read, unless memory runs out.
-    ensures only { (request : Request) → IsRequest request → body.now ≡ request_body request → Gives (λ x. x) result (Ok request) }
+    ensures only { (request : Request) → IsRequest request → body.now ≡ request_body request →
+        Gives (λ x. x) result (Ok request) }
     // Which test fails first.
     ensures exact { Gives (λ x. x) result (request_at body.now) }
-    // Want of memory is told of a request alone, and not of one that holds no bytes.
+    // Only a request that holds bytes can be out of memory.
     ensures memory { IsErrOf result BodyError.Memory → SpellsRequest body.now }
 {
     body_of(alloc, body)

@@ -2,6 +2,7 @@
 ghost use Rattle.std.specs.Prelude.{◌<◌};
 
 use crate::{Decoder, Reply, Request, WireError, spell_reply, spell_request};
+use link_model::SteadySource;
 use rdb_base::{Key, Row, Value};
 use std::alloc::Global;
 use std::process::Abort;
@@ -19,7 +20,7 @@ fn put_of(alloc: Global, key: &[u8], value: &[u8]) -> Result<Request, Fail> {
     })
 }
 
-/// What a decoder reads of an input that comes in pieces of this size: requests, and a refusal behind them.
+/// What a decoder reads of an input that comes in pieces of this size: requests, and the refusal after them.
 fn read(
     rt: &(impl Abort + AllocGlobal),
     input: &[u8],
@@ -112,6 +113,22 @@ fn a_decoder_wants_what_its_message_lacks(rt: HostRuntime) -> Result<(), Fail> {
     assert_eq!(rt; decoder.want(), 0);
     let refusal = Err(WireError::BadMessage { at: 0, code: 1 });
     assert_eq!(rt; decoder.request(alloc), refusal);
+    assert_eq!(rt; decoder.request(alloc), refusal);
+    Ok(())
+}
+
+#[test]
+fn a_source_fills_what_a_message_lacks(rt: HostRuntime) -> Result<(), Fail> {
+    let alloc = rt.alloc();
+    let mut decoder = Decoder::make(alloc)?;
+    let mut source = SteadySource::new(Vec::from_slice(alloc, b"\x00\x00\x00\x02\x09\x00\x00")?);
+    assert_eq!(rt; decoder.take_from(&mut source, 3), Ok(3));
+    assert_eq!(rt; decoder.want(), 1);
+    assert_eq!(rt; decoder.take_from(&mut source, 100), Ok(1));
+    assert_eq!(rt; decoder.want(), 2);
+    assert_eq!(rt; decoder.take_from(&mut source, 100), Ok(2));
+    assert_eq!(rt; source.remaining(), b"\x00".as_slice());
+    let refusal = Err(WireError::BadMessage { at: 0, code: 7 });
     assert_eq!(rt; decoder.request(alloc), refusal);
     Ok(())
 }

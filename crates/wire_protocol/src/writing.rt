@@ -1,8 +1,13 @@
-ghost use Rattle.std.specs.Prelude.{◌≡◌, ◌+◌, ◌≤◌, ◌++◌, length, vec_capacity, OnOk, OnErr, IsOk};
-ghost use Rattle.std.specs.Int.{to_be_bytes};
-ghost use Rattle.wire_protocol.specs.Grammar.{key_field, value_field, spell_request, spell_reply};
+//! Requests and replies written as bytes. Each is added whole, or not at all.
+ghost use Rattle.std.specs.Prelude.{◌≡◌, ◌+◌, ◌≤◌, ◌<◌, ◌^◌, ◌∷◌, ◌++◌, length, vec_capacity, OnOk, OnErr, IsOk};
+ghost use Rattle.std.specs.Int.{w32, w64, to_be_bytes};
+ghost use Rattle.wire_protocol.specs.Grammar.{key_field, value_field, request_body, reply_body, spell_request, spell_reply};
+ghost use Rattle.wire_protocol.specs.declared.limits.TheConstants.{LENGTH_SIZE};
 
-use crate::limits::{MESSAGE_MAX, REPLY_MAX};
+use crate::codes::{
+    ABSENT, BAD_MESSAGE, BYE, DEVICE_FAULT, DONE, GET, OUT_OF_MEMORY, PUT, QUIT, VALUE,
+};
+use crate::limits::{BODY_MAX, LENGTH_SIZE, MESSAGE_MAX, REPLY_MAX};
 use history_core::{Reply, Request};
 use rdb_base::{Key, NoMemory, Value};
 
@@ -28,46 +33,61 @@ fn add_value(out: &mut Vec<u8>, value: &Value) -> Result<(), NoMemory>
     Ok(())
 }
 
-/// How many bytes the spelling of a request has.
-fn request_len(request: &Request) -> usize
-    ensures length { result ≡ length (spell_request request.now) }
-    ensures most { result ≤ MESSAGE_MAX }
+/// Adds a code and a number.
+fn add_numbered(out: &mut Vec<u8>, code: u8, number: u64) -> Result<(), NoMemory>
+    ensures ok { OnOk result (out.new.items ≡ out.old.items ++ (code ∷ to_be_bytes w64 number)) }
+    ensures room { length out.old.items + 9 ≤ vec_capacity out.old → IsOk result }
+    ensures capacity { vec_capacity out.old ≤ vec_capacity out.new }
+{
+    out.push(code)?;
+    out.extend_from_slice(&number.to_be_bytes())?;
+    Ok(())
+}
+
+/// Adds the length of a body.
+fn add_length(out: &mut Vec<u8>, len: usize) -> Result<(), NoMemory>
+    requires { len < 2 ^ 32 }
+    ensures ok { OnOk result (out.new.items ≡ out.old.items ++ to_be_bytes w32 len) }
+    ensures room { length out.old.items + LENGTH_SIZE ≤ vec_capacity out.old → IsOk result }
+    ensures capacity { vec_capacity out.old ≤ vec_capacity out.new }
+{
+    out.extend_from_slice(&(len as u32).to_be_bytes())?;
+    Ok(())
+}
+
+/// How many bytes the body of a request has.
+fn request_body_len(request: &Request) -> usize
+    ensures length { result ≡ length (request_body request.now) }
+    ensures most { result ≤ BODY_MAX }
 {
     match request {
-        Request::Put { row } => 11 + row.key.as_bytes().len() + row.value.as_bytes().len(),
-        Request::Get { key } => 7 + key.as_bytes().len(),
-        Request::Quit => 5,
+        Request::Put { row } => 7 + row.key.as_bytes().len() + row.value.as_bytes().len(),
+        Request::Get { key } => 3 + key.as_bytes().len(),
+        Request::Quit => 1,
     }
 }
 
-fn add_request(out: &mut Vec<u8>, request: &Request) -> Result<(), NoMemory>
-    ensures ok { OnOk result (out.new.items ≡ out.old.items ++ spell_request request.now) }
-    ensures room { length out.old.items + length (spell_request request.now) ≤ vec_capacity out.old → IsOk result }
+fn add_request_body(out: &mut Vec<u8>, request: &Request) -> Result<(), NoMemory>
+    ensures ok { OnOk result (out.new.items ≡ out.old.items ++ request_body request.now) }
+    ensures room { length out.old.items + length (request_body request.now) ≤ vec_capacity out.old → IsOk result }
     ensures capacity { vec_capacity out.old ≤ vec_capacity out.new }
 {
     match request {
         Request::Put { row } => {
-            let len = 7 + row.key.as_bytes().len() + row.value.as_bytes().len();
-            out.extend_from_slice(&(len as u32).to_be_bytes())?;
-            out.push(0x01)?;
+            out.push(PUT)?;
             add_key(out, &row.key)?;
             add_value(out, &row.value)?;
         }
         Request::Get { key } => {
-            let len = 3 + key.as_bytes().len();
-            out.extend_from_slice(&(len as u32).to_be_bytes())?;
-            out.push(0x03)?;
+            out.push(GET)?;
             add_key(out, key)?;
         }
-        Request::Quit => {
-            out.extend_from_slice(&1u32.to_be_bytes())?;
-            out.push(0x09)?;
-        }
+        Request::Quit => out.push(QUIT)?,
     }
     Ok(())
 }
 
-/// Adds the spelling of a request. Refused memory, it adds nothing.
+/// Adds the spelling of a request. If memory is refused, it adds nothing.
 pub fn spell_request(request: &Request, out: &mut Vec<u8>) -> Result<(), NoMemory>
     ensures ok { OnOk result (out.new.items ≡ out.old.items ++ spell_request request.now) }
     ensures err { OnErr result (out.new.items ≡ out.old.items) }
@@ -75,82 +95,56 @@ pub fn spell_request(request: &Request, out: &mut Vec<u8>) -> Result<(), NoMemor
     ensures room { length out.old.items + length (spell_request request.now) ≤ vec_capacity out.old → IsOk result }
     ensures capacity { vec_capacity out.old ≤ vec_capacity out.new }
 {
-    out.reserve(request_len(request))?;
-    add_request(out, request).unwrap();
+    let len = request_body_len(request);
+    out.reserve(LENGTH_SIZE + len)?;
+
+    // From here on nothing is refused.
+    add_length(out, len).unwrap();
+    add_request_body(out, request).unwrap();
     Ok(())
 }
 
-fn add_value_reply(out: &mut Vec<u8>, front: u64, value: &Value) -> Result<(), NoMemory>
-    ensures ok { OnOk result (out.new.items ≡ out.old.items ++ spell_reply (Reply.Value front value.now)) }
-    ensures room { length out.old.items + length (spell_reply (Reply.Value front value.now)) ≤ vec_capacity out.old → IsOk result }
-    ensures most { length (spell_reply (Reply.Value front value.now)) ≤ REPLY_MAX }
-    ensures capacity { vec_capacity out.old ≤ vec_capacity out.new }
-{
-    let len = 13 + value.as_bytes().len();
-    out.extend_from_slice(&(len as u32).to_be_bytes())?;
-    out.push(0x82)?;
-    out.extend_from_slice(&front.to_be_bytes())?;
-    add_value(out, value)?;
-    Ok(())
-}
-
-/// How many bytes the spelling of a reply has.
-fn reply_len(reply: &Reply) -> usize
-    ensures length { result ≡ length (spell_reply reply.now) }
-    ensures most { result ≤ REPLY_MAX }
+/// How many bytes the body of a reply has.
+fn reply_body_len(reply: &Reply) -> usize
+    ensures length { result ≡ length (reply_body reply.now) }
+    ensures most { LENGTH_SIZE + result ≤ REPLY_MAX }
 {
     match reply {
-        Reply::Value { front: _, value } => 17 + value.as_bytes().len(),
-        Reply::Done { number: _ } | Reply::Absent { front: _ } => 13,
-        Reply::BadMessage { at: _, code: _ } => 14,
-        Reply::DeviceFault { device: _ } => 6,
-        Reply::Bye | Reply::OutOfMemory => 5,
+        Reply::Value { front: _, value } => 13 + value.as_bytes().len(),
+        Reply::Done { number: _ } | Reply::Absent { front: _ } => 9,
+        Reply::BadMessage { at: _, code: _ } => 10,
+        Reply::DeviceFault { device: _ } => 2,
+        Reply::Bye | Reply::OutOfMemory => 1,
     }
 }
 
-fn add_reply(out: &mut Vec<u8>, reply: &Reply) -> Result<(), NoMemory>
-    ensures ok { OnOk result (out.new.items ≡ out.old.items ++ spell_reply reply.now) }
-    ensures room { length out.old.items + length (spell_reply reply.now) ≤ vec_capacity out.old → IsOk result }
+fn add_reply_body(out: &mut Vec<u8>, reply: &Reply) -> Result<(), NoMemory>
+    ensures ok { OnOk result (out.new.items ≡ out.old.items ++ reply_body reply.now) }
+    ensures room { length out.old.items + length (reply_body reply.now) ≤ vec_capacity out.old → IsOk result }
     ensures capacity { vec_capacity out.old ≤ vec_capacity out.new }
 {
     match reply {
-        Reply::Done { number } => {
-            out.extend_from_slice(&9u32.to_be_bytes())?;
-            out.push(0x81)?;
-            out.extend_from_slice(&number.to_be_bytes())?;
-        }
+        Reply::Done { number } => add_numbered(out, DONE, *number)?,
         Reply::Value { front, value } => {
-            add_value_reply(out, *front, value)?;
+            add_numbered(out, VALUE, *front)?;
+            add_value(out, value)?;
         }
-        Reply::Absent { front } => {
-            out.extend_from_slice(&9u32.to_be_bytes())?;
-            out.push(0x83)?;
-            out.extend_from_slice(&front.to_be_bytes())?;
-        }
-        Reply::Bye => {
-            out.extend_from_slice(&1u32.to_be_bytes())?;
-            out.push(0x89)?;
-        }
+        Reply::Absent { front } => add_numbered(out, ABSENT, *front)?,
+        Reply::Bye => out.push(BYE)?,
         Reply::BadMessage { at, code } => {
-            out.extend_from_slice(&10u32.to_be_bytes())?;
-            out.push(0xE1)?;
-            out.extend_from_slice(&at.to_be_bytes())?;
+            add_numbered(out, BAD_MESSAGE, *at)?;
             out.push(*code)?;
         }
         Reply::DeviceFault { device } => {
-            out.extend_from_slice(&2u32.to_be_bytes())?;
-            out.push(0xE4)?;
+            out.push(DEVICE_FAULT)?;
             out.push(*device)?;
         }
-        Reply::OutOfMemory => {
-            out.extend_from_slice(&1u32.to_be_bytes())?;
-            out.push(0xE5)?;
-        }
+        Reply::OutOfMemory => out.push(OUT_OF_MEMORY)?,
     }
     Ok(())
 }
 
-/// Adds the spelling of a reply. Refused memory, it adds nothing.
+/// Adds the spelling of a reply. If memory is refused, it adds nothing.
 pub fn spell_reply(reply: &Reply, out: &mut Vec<u8>) -> Result<(), NoMemory>
     ensures ok { OnOk result (out.new.items ≡ out.old.items ++ spell_reply reply.now) }
     ensures err { OnErr result (out.new.items ≡ out.old.items) }
@@ -158,7 +152,11 @@ pub fn spell_reply(reply: &Reply, out: &mut Vec<u8>) -> Result<(), NoMemory>
     ensures room { length out.old.items + length (spell_reply reply.now) ≤ vec_capacity out.old → IsOk result }
     ensures capacity { vec_capacity out.old ≤ vec_capacity out.new }
 {
-    out.reserve(reply_len(reply))?;
-    add_reply(out, reply).unwrap();
+    let len = reply_body_len(reply);
+    out.reserve(LENGTH_SIZE + len)?;
+
+    // From here on nothing is refused.
+    add_length(out, len).unwrap();
+    add_reply_body(out, reply).unwrap();
     Ok(())
 }

@@ -6,7 +6,7 @@ use disk_model::{DeviceError, FaultBook};
 use rdb_base::{Key, NoMemory, Row, Value};
 use std::alloc::Global;
 
-/// A store of one row at most: a put behind that is refused for want of memory.
+/// A store of one row at most: each put after that is out of memory.
 pub struct OneRow;
 
 /// The row, the number of the next update, and a strip that fails at the first put or at none.

@@ -1,5 +1,8 @@
-use Rattle.history_core.proofs.SessionLemmas.{ReplaysAll-grown, least-forward}
+use Rattle.history_core.proofs.SessionLemmas.{ReplaysAll-grown, least-forward, names-forward}
 use Rattle.history_core.proofs.laws.replies_over_history.Goals as goal
+
+pub returns-clause-numbers : goal.returns-clause-numbers
+returns-clause-numbers c = names-forward
 
 pub returns-clause-forward : goal.returns-clause-forward
 returns-clause-forward c = least-forward

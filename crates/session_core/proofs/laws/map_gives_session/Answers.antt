@@ -1,4 +1,4 @@
-use Rattle.session_core.proofs.MapSessions.{map_gives_session, log-accepted}
+use Rattle.session_core.proofs.MapSessionLemmas.{map_gives_session, log-accepted}
 use Rattle.session_core.proofs.laws.map_gives_session.Goals as goal
 
 pub returns-clause-session : goal.returns-clause-session

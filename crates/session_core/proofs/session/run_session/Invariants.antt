@@ -1,7 +1,7 @@
 use Rattle.std.proofs.Common.{◌≡◌, ◌-◌, ◌≤◌, []}
-use Rattle.session_core.specs.declared.filling.TheConstants.{SESSION_MAX}
+use Rattle.session_core.specs.declared.limits.TheConstants.{SESSION_MAX}
 use Rattle.session_core.specs.Telling.{AreOf, AreAtMost}
-use Rattle.session_core.specs.Conversations.{SoFar, scene_of}
+use Rattle.session_core.specs.Conversations.{SoFar, scene_at}
 use Rattle.session_core.proofs.session.run_session.Given as goal
 
 abbrev pub invariant-messages : goal.invariant-messages
@@ -15,8 +15,8 @@ invariant-messages g l = record {
   source : g.R.Source.faults l.source ≡ g.R.Source.faults l.fn.source;
   sink : g.W.Sink.faults l.sink ≡ g.W.Sink.faults l.fn.sink;
   so_far : SoFar 0
-      (scene_of (g.R.Source.left l.fn.source) (g.W.Sink.written l.fn.sink) (g.A.Answers.map l.fn.pass) (g.A.Answers.counts l.fn.pass) [])
-      (scene_of (g.R.Source.left l.source) (g.W.Sink.written l.sink) (g.A.Answers.map l.pass) (g.A.Answers.counts l.pass) l.faults)
+      (scene_at g.A.Answers g.R.Source g.W.Sink l.fn.pass l.fn.source l.fn.sink [])
+      (scene_at g.A.Answers g.R.Source g.W.Sink l.pass l.source l.sink l.faults)
       l.rooms.decoder.at l.replies;
 }
 

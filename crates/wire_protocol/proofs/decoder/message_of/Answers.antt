@@ -1,6 +1,6 @@
 use Rattle.std.proofs.Common.{arith, ap, ◌∙◌}
 use Rattle.wire_protocol.specs.Grammar.{message}
-use Rattle.wire_protocol.proofs.Whole.{held_is, refused_answer}
+use Rattle.wire_protocol.proofs.MessageLemmas.{held_is, refused_answer}
 use Rattle.wire_protocol.proofs.decoder.message_of.Goals as goal
 
 pub returns-in-Ok : goal.returns-in-Ok

@@ -1,5 +1,5 @@
-use Rattle.wire_protocol.proofs.Whole.{same_request}
-use Rattle.wire_protocol.proofs.Replies.{same_reply}
+use Rattle.wire_protocol.proofs.MessageLemmas.{same_request}
+use Rattle.wire_protocol.proofs.ReplyLemmas.{same_reply}
 use Rattle.wire_protocol.proofs.laws.spellings_are_apart.Goals as goal
 
 pub returns-clause-requests : goal.returns-clause-requests

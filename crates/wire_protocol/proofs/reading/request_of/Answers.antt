@@ -4,7 +4,8 @@ use Rattle.history_core.specs.declared.request.Request.TheVariants.{Quit}
 use Rattle.wire_protocol.specs.declared.body_error.BodyError.TheVariants.{Memory}
 use Rattle.history_core.specs.declared.request.Request.{Request}
 use Rattle.wire_protocol.specs.declared.body_error.BodyError.{BodyError}
-use Rattle.wire_protocol.specs.Bytes.{AreBytes}
+use Rattle.wire_protocol.specs.declared.codes.TheConstants as codes
+use Rattle.rdb_base.specs.Bytes.{AreBytes}
 use Rattle.wire_protocol.specs.Grammar.{request_body, IsRequest}
 use Rattle.wire_protocol.specs.Reading.{Gives, SpellsRequest, request_at}
 use Rattle.wire_protocol.proofs.ReadingLemmas.{request_takes, request_again}
@@ -26,7 +27,7 @@ spells body (Ok request) e fits ok not_quit =
     (request, found.0, found.1, λ q. not_quit (found.0 ∙ ap request_body q))
 spells body (Err code) e fits ok not_quit = absurd cc
 
-no_quit : (body : List ℕ) (r : Result Request BodyError) → (body ≡ 9 ∷ [] → r ≡ Ok Quit) → IsErrOf r Memory → body ≡ request_body Quit → ⊥
+no_quit : (body : List ℕ) (r : Result Request BodyError) → (body ≡ codes.QUIT ∷ [] → r ≡ Ok Quit) → IsErrOf r Memory → body ≡ request_body Quit → ⊥
 no_quit body r quit is_memory e = let q : r ≡ Ok Quit = quit e in cc
 
 pub returns-clause-memory : goal.returns-clause-memory
