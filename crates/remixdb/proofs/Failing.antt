@@ -1,25 +1,30 @@
 -- What the status of a script says of the counts of faults. To know: `failed_rose`, `clean_kept`, `all_told`, `told_counted`, `stream_ended`, `source_unclean`.
 use Rattle.std.proofs.Common.{◌≡◌, ℕ, zero, suc, ◌+◌, ◌-◌, ◌^◌, ◌<◌, ◌≤◌, min, Bool, true, false, cond, List, [], ◌∷◌, ◌++◌, Option, Some, None, refl, sym, ap, ◌∙◌, arith, inl, inr, ◌⊎◌}
 use Rattle.std.specs.Prelude.{Result, Ok, Err, MatchOption}
-use Rattle.disk_model.specs.Books.{BookName, Rose}
-use Rattle.disk_model.specs.Causes.{HasCause}
+use Rattle.fault_count.specs.Counts.{Rose}
+use Rattle.fault_count.specs.Causes.{HasCause}
+use Rattle.disk_model.specs.Books.{BookName}
+use Rattle.disk_model.specs.Causes.{CauseOf}
 use Rattle.disk_model.specs.declared.device_error.DeviceError.{DeviceError}
 use Rattle.disk_model.specs.declared.device_error.DeviceError.TheVariants as device
 use Rattle.disk_model.specs.Piles.{Units, number_at}
+use Rattle.frame_journal.specs.Causes.{OpeningCause}
+use Rattle.frame_journal.specs.declared.journal_error.JournalError.{JournalError}
+use Rattle.frame_journal.specs.declared.journal_error.JournalError.TheVariants as journal
 use Rattle.history_core.specs.declared.reply.Reply.{Reply}
 use Rattle.history_core.specs.declared.reply.Reply.TheVariants.{Bye}
 use Rattle.session_core.specs.declared.session_end.SessionEnd.{SessionEnd}
 use Rattle.session_core.specs.declared.session_end.SessionEnd.TheVariants.{End, Quit as Quitted, Bad, Cut, Spent, SourceFault, SinkFault, Memory}
 use Rattle.session_core.specs.Telling.{told_by_all, CountsRose, StoreState}
-use Rattle.session_core.specs.Machines.{MapState, accepted}
+use Rattle.session_core.specs.PlainMap.{MapState, accepted}
 use Rattle.session_core.specs.Conversations.{Scene, Exchange, SessionEnds, scene_of}
-use Rattle.session_core.proofs.MapSessions.{log-accepted}
+use Rattle.session_core.proofs.MapSessionLemmas.{log-accepted}
 use Rattle.wire_protocol.specs.Grammar.{spell_requests, spell_replies}
 use Rattle.std.specs.Io.KnownBytes.{prepend_known, append_known}
 use Rattle.history_core.specs.declared.request.Request.{Request}
 use Rattle.history_core.specs.declared.request.Request.TheVariants.{Quit}
-use Rattle.remixdb.specs.Lent.{risen_with}
-use Rattle.remixdb.specs.Outcomes.{status_of, failed_of, short_of, least_of, outcome_by, outcome_of_run, IsCleanOfDevices, IsCleanOfStreams}
+use Rattle.host_model.specs.Lent.{risen}
+use Rattle.remixdb.specs.Outcomes.{status_of, failed_of, short_of, least_of, outcome_by, outcome_of_run, outcome_of_refusal, IsCleanOfDevices, IsCleanOfStreams}
 use Rattle.remixdb.proofs.Scripting.{counts_at, counts_zero, least_none, ok_of}
 
 -- the counts, units and log of a store, after these replies
@@ -32,12 +37,12 @@ moved_by : (old new : Scene) (asked : List Request) (answered : List Reply) → 
 moved_by old new asked answered e = record { log = log-accepted old.store.map new.store.map asked answered e.answers; counts = e.counts; units = e.units }
 
 moved : (end : SessionEnd) (from decided : ℕ) (old new : Scene) → SessionEnds end from old new decided → (asked : List Request) × (answered : List Reply) × Moved old.store new.store asked answered
-moved Quitted from decided old new (asked, answered, e, no_quit, counted) = (asked ++ Quit ∷ [], answered ++ Bye ∷ [], moved_by old new (asked ++ Quit ∷ []) (answered ++ Bye ∷ []) e)
-moved End from decided old new (at, so, left) = (so.asked, so.answered, moved_by old new so.asked so.answered so.exchange)
-moved (Cut at) from decided old new (held, so, some, lacks, left) = (so.asked, so.answered, moved_by old (record new { coming = prepend_known held new.coming }) so.asked so.answered so.exchange)
-moved (Bad at code) from decided old new (held, put, others, so, refused, put_is, counted) = (so.asked, so.answered, moved_by old (record new { coming = prepend_known held new.coming; put = put }) so.asked so.answered so.exchange)
+moved Quitted from decided old new (asked, answered, e, no_quit, counted, most) = (asked ++ Quit ∷ [], answered ++ Bye ∷ [], moved_by old new (asked ++ Quit ∷ []) (answered ++ Bye ∷ []) e)
+moved End from decided old new (at, so, left, few) = (so.asked, so.answered, moved_by old new so.asked so.answered so.exchange)
+moved (Cut at) from decided old new (held, so, some, lacks, left, few) = (so.asked, so.answered, moved_by old (record new { coming = prepend_known held new.coming }) so.asked so.answered so.exchange)
+moved (Bad at code) from decided old new (held, put, others, so, refused, put_is, counted, most) = (so.asked, so.answered, moved_by old (record new { coming = prepend_known held new.coming; put = put }) so.asked so.answered so.exchange)
 moved Spent from decided old new (held, at, so, full, lacks) = (so.asked, so.answered, moved_by old (record new { coming = prepend_known held new.coming }) so.asked so.answered so.exchange)
-moved SourceFault from decided old new (held, at, so, lacks) = (so.asked, so.answered, moved_by old (record new { coming = prepend_known held new.coming }) so.asked so.answered so.exchange)
+moved SourceFault from decided old new (held, at, so, lacks, few) = (so.asked, so.answered, moved_by old (record new { coming = prepend_known held new.coming }) so.asked so.answered so.exchange)
 moved SinkFault from decided old new g = (g.asked, g.answered, moved_by old (record new { coming = prepend_known g.held new.coming; put = append_known old.put (spell_replies g.answered) }) g.asked g.answered g.exchange)
 moved Memory from decided old new (e, none) = ([], [], moved_by old new [] [] e)
 
@@ -104,7 +109,7 @@ not_four SourceFault e = omega (arith, e)
 not_four SinkFault e = omega (arith, e)
 not_four Memory e = omega (arith, e)
 
-pub failed_rose : {T U : Type 0} (cleared : Result T DeviceError) (told : Option ℕ) (settled : Result U DeviceError) (end : SessionEnd) (book last : BookName) (a b c d : ℕ) → HasCause book a b cleared → Told told b c → HasCause last c d settled → status_of (outcome_of_run cleared told settled end) ≡ 4 → Rose a d
+pub failed_rose : {T U : Type 0} (cleared : Result T DeviceError) (told : Option ℕ) (settled : Result U DeviceError) (end : SessionEnd) (book last : BookName) (a b c d : ℕ) → HasCause (CauseOf book) a b cleared → Told told b c → HasCause (CauseOf last) c d settled → status_of (outcome_of_run cleared told settled end) ≡ 4 → Rose a d
 failed_rose (Err device.Memory) told settled end book last a b c d one two three e = absurd (omega (arith, e))
 failed_rose (Err (device.Fault unit)) told settled end book last a b c d one two three e = omega (arith, one.failed.1, two.later, three.later)
 failed_rose (Ok done) (Some number) settled end book last a b c d one two three e = omega (arith, one.later, two.some number refl, three.later)
@@ -132,26 +137,45 @@ clean_none false true failed end h = absurd (not_clean 6 (inr refl) h)
 clean_none false false None end h = (refl, refl, refl)
 clean_none false false (Some number) end h = absurd (some_not_clean number end h)
 
-pub clean_kept : {T U : Type 0} (cleared : Result T DeviceError) (told : Option ℕ) (settled : Result U DeviceError) (end : SessionEnd) (book last : BookName) (a b c d : ℕ) → HasCause book a b cleared → Told told b c → HasCause last c d settled → IsCleanOfDevices (status_of (outcome_of_run cleared told settled end)) → d ≡ a
+pub clean_kept : {T U : Type 0} (cleared : Result T DeviceError) (told : Option ℕ) (settled : Result U DeviceError) (end : SessionEnd) (book last : BookName) (a b c d : ℕ) → HasCause (CauseOf book) a b cleared → Told told b c → HasCause (CauseOf last) c d settled → IsCleanOfDevices (status_of (outcome_of_run cleared told settled end)) → d ≡ a
 clean_kept cleared told settled end book last a b c d one two three h =
     let n = clean_none (short_of cleared) (short_of settled) (least_of (failed_of cleared) (least_of told (failed_of settled))) end h in
     let f = least_none (failed_of cleared) (least_of told (failed_of settled)) n.2 in
     let s = least_none told (failed_of settled) f.1 in
     ok_of settled (d ≡ c) n.1 s.1 three.kept ∙ two.none s.0 ∙ ok_of cleared (b ≡ a) n.0 f.0 one.kept
 
+-- an opening that was refused: status 4 is that of a fault, and a status of lower rank that of none
+pub refused_rose : (error : JournalError) (book : BookName) (before now : ℕ) → OpeningCause book before now error → status_of (outcome_of_refusal error) ≡ 4 → Rose before now
+refused_rose (journal.Fault unit) book before now h four = omega (arith, h.1)
+refused_rose (journal.TornHeader at) book before now h four = absurd (omega (arith, four))
+refused_rose journal.Memory book before now h four = absurd (omega (arith, four))
+
+pub refused_kept : (error : JournalError) (book : BookName) (before now : ℕ) → OpeningCause book before now error → IsCleanOfDevices (status_of (outcome_of_refusal error)) → now ≡ before
+refused_kept (journal.Fault unit) book before now h clean = absurd (not_clean 4 (inl refl) clean)
+refused_kept (journal.TornHeader at) book before now h clean = h
+refused_kept journal.Memory book before now h clean = h
+
+pub refused_later : (error : JournalError) (book : BookName) (before now : ℕ) → before < 2 ^ 64 → OpeningCause book before now error → before ≤ now
+refused_later (journal.Fault unit) book before now fits h = omega (arith, h.1, fits)
+refused_later (journal.TornHeader at) book before now fits h = omega (arith, h)
+refused_later journal.Memory book before now fits h = omega (arith, h)
+
+-- no status of a refused opening is that of a failed stream
+pub refused_not_five : (error : JournalError) → status_of (outcome_of_refusal error) ≡ 5 → ⊥
+refused_not_five (journal.Fault unit) five = omega (arith, five)
+refused_not_five (journal.TornHeader at) five = omega (arith, five)
+refused_not_five journal.Memory five = omega (arith, five)
+
 -- where every fault that the host counted was told, the closing settle was not refused by a device
-pub all_told : {U : Type 0} (settled : Result U DeviceError) (last : BookName) (a b c d faults out told : ℕ) (lent : Option ℕ) → lent ≡ Some a → a ≤ faults → a ≤ b → min (b + told) (2 ^ 64 - 1) ≤ c → HasCause last c d settled → out ≡ risen_with faults lent d → out ≡ faults + told → out < 2 ^ 64 - 1 → short_of settled ≡ false → failed_of settled ≡ None
-all_told (Ok done) last a b c d faults out told lent is within one two three o all below short = refl
-all_told (Err device.Memory) last a b c d faults out told lent is within one two three o all below short = absurd cc
-all_told (Err (device.Fault unit)) last a b c d faults out told lent is within one two three o all below short =
-    let o' : out ≡ risen_with faults (Some a) d = o ∙ ap (λ (l : Option ℕ). risen_with faults l d) is in
-    absurd (omega (arith, o', within, one, two, three.failed.1, three.later, all, below))
+pub all_told : {U : Type 0} (settled : Result U DeviceError) (last : BookName) (first a b c d faults out told : ℕ) → first ≤ faults → a ≡ first → a ≤ b → min (b + told) (2 ^ 64 - 1) ≤ c → HasCause (CauseOf last) c d settled → out ≡ risen faults (first ∷ []) (d ∷ []) → out ≡ faults + told → out < 2 ^ 64 - 1 → short_of settled ≡ false → failed_of settled ≡ None
+all_told (Ok done) last first a b c d faults out told within is one two three o all below short = refl
+all_told (Err device.Memory) last first a b c d faults out told within is one two three o all below short = absurd cc
+all_told (Err (device.Fault unit)) last first a b c d faults out told within is one two three o all below short =
+    absurd (omega (arith, o, is, within, one, two, three.failed.1, three.later, all, below))
 
 -- each fault that was told is in the host's count
-pub told_counted : (a b c d faults out told : ℕ) (lent : Option ℕ) → lent ≡ Some a → a ≤ faults → a ≤ b → min (b + told) (2 ^ 64 - 1) ≤ c → c ≤ d → out ≡ risen_with faults lent d → min (faults + told) (2 ^ 64 - 1) ≤ out
-told_counted a b c d faults out told lent is within one two three o =
-    let o' : out ≡ risen_with faults (Some a) d = o ∙ ap (λ (l : Option ℕ). risen_with faults l d) is in
-    omega (arith, o', within, one, two, three)
+pub told_counted : (first a b c d faults out told : ℕ) → first ≤ faults → a ≡ first → a ≤ b → min (b + told) (2 ^ 64 - 1) ≤ c → c ≤ d → out ≡ risen faults (first ∷ []) (d ∷ []) → min (faults + told) (2 ^ 64 - 1) ≤ out
+told_counted first a b c d faults out told within is one two three o = omega (arith, o, is, within, one, two, three)
 
 -- ---- the streams
 

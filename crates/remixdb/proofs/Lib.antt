@@ -1,5 +1,4 @@
 pub mod RowLemmas
-pub mod Rising
 pub mod Logging
 pub mod WellFormed
 pub mod Scripting

@@ -71,7 +71,7 @@ log_of-opened strip s journal kept frames same stands standing_is idle empty = �
     ∙ ap joined frames_are in
     rw told_here (ap (λ (t : List ℕ). Some t) bytes)
 
--- what is entered goes behind the log
+-- what is entered goes to the end of the log
 pub log_of-entered : {S : Type 0} (strip : Ghosts S) (journal : JournalState S) (kept more : List ℕ) → log_of strip journal (kept ++ more) ≡ append_known (log_of strip journal kept) more
 log_of-entered strip journal kept more = by_told (strip.tells journal.strip) refl
   where

@@ -8,7 +8,7 @@ use Rattle.disk_model.specs.declared.device_error.DeviceError.{DeviceError}
 use Rattle.disk_model.specs.declared.device_error.DeviceError.TheVariants as device
 use Rattle.disk_model.specs.declared.strip.Strip.{Ghosts}
 use Rattle.disk_model.specs.Piles.{Units, number_at}
-use Rattle.link_model.specs.Faults.{Rose}
+use Rattle.fault_count.specs.Counts.{Rose}
 use Rattle.frame_journal.specs.Frames.{frames_of, StandsFor, HasNoTorn, IsTornAt}
 use Rattle.frame_journal.specs.Devices.{OfBytes, KeepsBytes}
 use Rattle.frame_journal.specs.Openings.{TellsTorn}
@@ -20,19 +20,19 @@ use Rattle.history_core.specs.declared.reply.Reply.{Reply}
 use Rattle.history_core.specs.declared.reply.Reply.TheVariants.{Bye, BadMessage}
 use Rattle.wire_protocol.specs.Grammar.{spell_requests, spell_reply, spell_replies}
 use Rattle.wire_protocol.specs.Messages.{wanted}
-use Rattle.session_core.specs.declared.filling.TheConstants.{SESSION_MAX}
+use Rattle.session_core.specs.declared.limits.TheConstants.{SESSION_MAX}
 use Rattle.session_core.specs.declared.session_end.SessionEnd.{SessionEnd}
 use Rattle.session_core.specs.declared.session_end.SessionEnd.TheVariants.{End, Quit as Quitted, Bad, Cut, Spent, SourceFault, SinkFault, Memory}
-use Rattle.session_core.specs.Machines.{MapState, accepted}
+use Rattle.session_core.specs.PlainMap.{MapState, accepted}
 use Rattle.session_core.specs.Telling.{told_by_all, CountsRose, StoreState}
 use Rattle.session_core.specs.Conversations.{Scene, Exchange, SessionEnds, Decided, scene_of}
-use Rattle.session_core.proofs.Conversing.{but_last-most}
-use Rattle.session_core.proofs.MapSessions.{map_gives_session, log-accepted}
-use Rattle.remixdb.specs.Lent.{told_bytes}
+use Rattle.session_core.proofs.ConversationLemmas.{but_last-most}
+use Rattle.session_core.proofs.MapSessionLemmas.{map_gives_session, log-accepted}
+use Rattle.host_model.specs.HostState.{strip_bytes}
 use Rattle.remixdb.specs.MapRows.{MapRows}
 use Rattle.remixdb.specs.Logged.{joined, IsSameStrip}
 use Rattle.remixdb.specs.Outcomes.{status_of, outcome_of_end, failed_of, short_of, least_of, outcome_by, outcome_of_run, outcome_of_refusal}
-use Rattle.remixdb.specs.Scripts.{HostState, ScriptBytes, Conversed, TellsNoFault, Logs, WasSteady, WasFaulty, AreCounted, IsWellFormed, EndsWell, EndsBadly, EndsCutShort, EndedBy, Served, HasTorn, HasNone, IsSilent, ScriptEnds}
+use Rattle.remixdb.specs.Scripts.{HomeState, ScriptBytes, Conversed, TellsNoFault, Logs, WasSteady, WasFaulty, AreCounted, IsWellFormed, EndsWell, EndsBadly, EndsCutShort, EndedBy, Served, HasTorn, HasNone, IsSilent, ScriptEnds}
 use Rattle.remixdb.proofs.WellFormed.{never_cut, never_refused}
 
 -- a map that begins empty, with this log
@@ -74,8 +74,8 @@ pub record Session : Type 0 where
   pub count : ℕ
   pub count_now : ℕ
   pub last : Scene
-  pub old : HostState
-  pub new : HostState
+  pub old : HomeState
+  pub new : HomeState
 
 abbrev pub first_of : Session → Scene
 first_of s = first_scene s.input s.before s.log s.count
@@ -110,7 +110,7 @@ conversed s scene asked answered counts same e =
       },
     )
 
--- the same, where these bytes are held behind the requests
+-- the same, where these bytes are held after the requests
 conversed_held : (s : Session) (held : List ℕ) (put : Option (List ℕ)) (asked : List Request) (answered : List Reply) → CountsOne s → Exchange (first_of s) (record s.last { coming = prepend_known held s.last.coming; put = put }) asked answered → (left : List ℕ) × (s.last.coming ≡ Some left) × Conversed s.input asked answered (held ++ left)
 conversed_held s held put asked answered counts e =
     let c = conversed s (record s.last { coming = prepend_known held s.last.coming; put = put }) asked answered counts refl e in
@@ -145,7 +145,7 @@ none_left new rest e none = subst (λ (o : Option (List ℕ)). IfSome o (λ byte
 all_said : (before : List ℕ) (replies : List Reply) → before ++ spell_replies replies ≡ before ++ take (length (spell_replies replies)) (spell_replies replies)
 all_said before replies = ap (λ (t : List ℕ). before ++ t) (sym (take_all (length (spell_replies replies)) (spell_replies replies) (omega arith)))
 
--- the refusal of a message, behind the replies before it
+-- the refusal of a message, after the replies before it
 refusal_put : (before : List ℕ) (put new_put : Option (List ℕ)) (answered : List Reply) (at place code : ℕ) → put ≡ append_known (Some before) (spell_replies answered) → new_put ≡ append_known put (spell_reply (BadMessage at code)) → at ≡ place → new_put ≡ Some (before ++ (spell_replies answered ++ spell_reply (BadMessage place code)))
 refusal_put before put new_put answered at place code e f p =
     f ∙ ap (λ (o : Option (List ℕ)). append_known o (spell_reply (BadMessage at code))) e
@@ -172,19 +172,19 @@ abbrev pub CameTo : Session → SessionEnd → (List Request → List Reply → 
 CameTo s end P = (left : List ℕ) × (after : List ℕ) × (s.last.coming ≡ Some left) × (s.last.put ≡ Some after) × Came end (bytes_of s left after) P
 
 pub by_end : (s : Session) (P : List Request → List Reply → Type 0) (end : SessionEnd) (decided : ℕ) → CountsOne s → Holds s P → ((end ≡ SourceFault) ⊎ (end ≡ SinkFault) → Rose s.old.stream_faults s.new.stream_faults) → SessionEnds end 0 (first_of s) s.last decided → CameTo s end P
-by_end s P Quitted decided counts holds failed (asked, answered, e, no_quit, counted) =
+by_end s P Quitted decided counts holds failed (asked, answered, e, no_quit, counted, most) =
     let c = conversed s s.last (asked ++ Quit ∷ []) (answered ++ Bye ∷ []) counts refl e in
     let w : EndsWell (bytes_of s c.0 (s.before ++ spell_replies (answered ++ Bye ∷ []))) = record { requests = asked ++ Quit ∷ []; replies = answered ++ Bye ∷ []; conversed = c.2; ended = inl (asked, refl, no_quit); put = refl } in
     (c.0, s.before ++ spell_replies (answered ++ Bye ∷ []), c.1, e.replies, (w, holds s.last (asked ++ Quit ∷ []) (answered ++ Bye ∷ []) refl e))
-by_end s P End decided counts holds failed (at, so, nothing) =
+by_end s P End decided counts holds failed (at, so, nothing, few) =
     let c = conversed s s.last so.asked so.answered counts refl so.exchange in
     let w : EndsWell (bytes_of s c.0 (s.before ++ spell_replies so.answered)) = record { requests = so.asked; replies = so.answered; conversed = c.2; ended = inr (so.no_quit, none_left s.last c.0 c.1 nothing); put = refl } in
     (c.0, s.before ++ spell_replies so.answered, c.1, so.exchange.replies, (w, holds s.last so.asked so.answered refl so.exchange))
-by_end s P (Cut at) decided counts holds failed (held, so, some, lacks, nothing) =
+by_end s P (Cut at) decided counts holds failed (held, so, some, lacks, nothing, few) =
     let c = conversed_held s held s.last.put so.asked so.answered counts so.exchange in
     let w : EndsBadly (bytes_of s c.0 (s.before ++ spell_replies so.answered)) = record { requests = so.asked; replies = so.answered; held = held; conversed = c.2; no_quit = so.no_quit; ended = inr (inl (some, lacks, none_left s.last c.0 c.1 nothing, refl)) } in
     (c.0, s.before ++ spell_replies so.answered, c.1, so.exchange.replies, (w, holds (record s.last { coming = prepend_known held s.last.coming }) so.asked so.answered refl so.exchange))
-by_end s P (Bad at code) decided counts holds failed (held, put, others, so, refused, put_is, counted) =
+by_end s P (Bad at code) decided counts holds failed (held, put, others, so, refused, put_is, counted, most) =
     let c = conversed_held s held put so.asked so.answered counts so.exchange in
     let after = s.before ++ (spell_replies so.answered ++ spell_reply (BadMessage (length (spell_requests so.asked)) code)) in
     let w : EndsBadly (bytes_of s c.0 after) = record { requests = so.asked; replies = so.answered; held = held; conversed = c.2; no_quit = so.no_quit; ended = inl (code, refused, refl) } in
@@ -193,7 +193,7 @@ by_end s P Spent decided counts holds failed (held, at, so, full, lacks) =
     let c = conversed_held s held s.last.put so.asked so.answered counts so.exchange in
     let w : EndsBadly (bytes_of s c.0 (s.before ++ spell_replies so.answered)) = record { requests = so.asked; replies = so.answered; held = held; conversed = c.2; no_quit = so.no_quit; ended = inr (inr (lacks, omega (arith, so.place, full), refl)) } in
     (c.0, s.before ++ spell_replies so.answered, c.1, so.exchange.replies, (w, holds (record s.last { coming = prepend_known held s.last.coming }) so.asked so.answered refl so.exchange))
-by_end s P SourceFault decided counts holds failed (held, at, so, lacks) =
+by_end s P SourceFault decided counts holds failed (held, at, so, lacks, few) =
     let c = conversed_held s held s.last.put so.asked so.answered counts so.exchange in
     let w : EndsCutShort (bytes_of s c.0 (s.before ++ spell_replies so.answered)) = record { requests = so.asked; replies = so.answered; said = so.answered; held = held; front = length (spell_replies so.answered); failed = failed (inl refl); conversed = c.2; quits = inl so.no_quit; is_said = inl (lacks, refl); put = all_said s.before so.answered; whole = but_last-most so.answered } in
     (c.0, s.before ++ spell_replies so.answered, c.1, so.exchange.replies, (w, holds (record s.last { coming = prepend_known held s.last.coming }) so.asked so.answered refl so.exchange))
@@ -268,8 +268,8 @@ steady Memory b ne none w = absurd (ne refl)
 
 -- ---- by outcome
 
--- what a strip is known to be that tells its bytes
-known_told : {S : Type 0} (strip : Ghosts S) (s : S) (bytes : List ℕ) → told_bytes strip s ≡ Some bytes → IsTrue (strip.tells s) × (strip.content s ≡ bytes)
+-- what a strip is known to be whose bytes contracts see
+known_told : {S : Type 0} (strip : Ghosts S) (s : S) (bytes : List ℕ) → strip_bytes strip s ≡ Some bytes → IsTrue (strip.tells s) × (strip.content s ≡ bytes)
 known_told strip s bytes e = by_told (strip.tells s) refl e
   where
     by_told : (told : Bool) → strip.tells s ≡ told → cond told (Some (strip.content s)) None ≡ Some bytes → IsTrue (strip.tells s) × (strip.content s ≡ bytes)
@@ -294,7 +294,7 @@ ok_of (Ok done) P short failed p = p
 ok_of (Err (device.Fault unit)) P short failed p = absurd cc
 ok_of (Err device.Memory) P short failed p = absurd cc
 
-logs_of : {S U : Type 0} (strip : Ghosts S) (first last : S) (settled : Result U DeviceError) (s : Session) → Strips strip first last s.log s.last.store.map.log settled → s.old.strip ≡ told_bytes strip first → s.new.strip ≡ told_bytes strip last → short_of settled ≡ false → failed_of settled ≡ None → AreLogs s
+logs_of : {S U : Type 0} (strip : Ghosts S) (first last : S) (settled : Result U DeviceError) (s : Session) → Strips strip first last s.log s.last.store.map.log settled → s.old.strip ≡ strip_bytes strip first → s.new.strip ≡ strip_bytes strip last → short_of settled ≡ false → failed_of settled ≡ None → AreLogs s
 logs_of strip first last settled s strips is_old is_new short failed = record {
   first = λ old is. let k = known_told strip first old (sym is_old ∙ is) in strips.begins k.0 ∙ ap (λ (t : List ℕ). Some (joined (frames_of t))) k.1;
   last = λ old is.
@@ -325,8 +325,8 @@ by_outcome s false false None end decided counts none counted told clean rose h 
     (t.0, t.1, t.2, t.3, steady end (bytes_of s t.0 t.1) (λ e. cc) none t.4)
 
 -- the names are those of the steps of the call
-pub script_tells : {S T U : Type 0} (strip : Ghosts S) (first last : S) (cleared : Result T DeviceError) (told : Option ℕ) (settled : Result U DeviceError) (end : SessionEnd) (decided : ℕ) (input before left put : Option (List ℕ)) (map_first map_last : MapState) (log : Option (List ℕ)) (count count_now : ℕ) (units : List (Option Units)) (old new : HostState) (status : ℕ)
-    → map_first ≡ fresh log → Strips strip first last log map_last.log settled → old.strip ≡ told_bytes strip first → new.strip ≡ told_bytes strip last → new.input ≡ left → new.output ≡ put
+pub script_tells : {S T U : Type 0} (strip : Ghosts S) (first last : S) (cleared : Result T DeviceError) (told : Option ℕ) (settled : Result U DeviceError) (end : SessionEnd) (decided : ℕ) (input before left put : Option (List ℕ)) (map_first map_last : MapState) (log : Option (List ℕ)) (count count_now : ℕ) (units : List (Option Units)) (old new : HomeState) (status : ℕ)
+    → map_first ≡ fresh log → Strips strip first last log map_last.log settled → old.strip ≡ strip_bytes strip first → new.strip ≡ strip_bytes strip last → new.input ≡ left → new.output ≡ put
     → (told ≡ None → (number : ℕ) → number_at units number ≡ 0)
     → ((number : ℕ) → min (count + number) (2 ^ 64 - 1) ≤ count_now → min (old.device_faults + number) (2 ^ 64 - 1) ≤ new.device_faults)
     → ((number : ℕ) → min (count + number) (2 ^ 64 - 1) ≤ count_now → new.device_faults ≡ old.device_faults + number → new.device_faults < 2 ^ 64 - 1 → short_of settled ≡ false → failed_of settled ≡ None)
@@ -358,7 +358,7 @@ script_tells {S} {T} {U} strip first last cleared told settled end decided input
     (t.0, t.1, is_left ∙ t.2, is_put ∙ t.3, subst (λ (k : ℕ). ScriptEnds k (bytes_of s t.0 t.1)) (sym n) t.4)
 
 -- what is told of a strip that came back as it was
-same_told_bytes : {S : Type 0} (strip : Ghosts S) (s back : S) → IsSameStrip strip s back → KeepsBytes strip s back → told_bytes strip back ≡ told_bytes strip s
+same_told_bytes : {S : Type 0} (strip : Ghosts S) (s back : S) → IsSameStrip strip s back → KeepsBytes strip s back → strip_bytes strip back ≡ strip_bytes strip s
 same_told_bytes strip s back same kept = by_told (strip.tells s) (strip.tells back) refl refl same.tells
   where
     by_told : (told told_back : Bool) → strip.tells s ≡ told → strip.tells back ≡ told_back → told_back ≡ told → cond told_back (Some (strip.content back)) None ≡ cond told (Some (strip.content s)) None
@@ -368,7 +368,7 @@ same_told_bytes strip s back same kept = by_told (strip.tells s) (strip.tells ba
     by_told false true t u e = absurd cc
 
 -- an opening that was refused
-pub refused_tells : {S : Type 0} (strip : Ghosts S) (s back : S) (error : JournalError) (old new : HostState) (status : ℕ) → OfBytes strip s (TellsTorn error) → IsSameStrip strip s back → KeepsBytes strip s back → old.strip ≡ told_bytes strip s → new.strip ≡ told_bytes strip back → new.input ≡ old.input → new.output ≡ old.output → status ≡ status_of (outcome_of_refusal error) → (i b : List ℕ) → old.input ≡ Some i → old.output ≡ Some b → (l : List ℕ) × (a : List ℕ) × (new.input ≡ Some l) × (new.output ≡ Some a) × ScriptEnds status (record { input = i; left = l; before = b; after = a; old = old; new = new })
+pub refused_tells : {S : Type 0} (strip : Ghosts S) (s back : S) (error : JournalError) (old new : HomeState) (status : ℕ) → OfBytes strip s (TellsTorn error) → IsSameStrip strip s back → KeepsBytes strip s back → old.strip ≡ strip_bytes strip s → new.strip ≡ strip_bytes strip back → new.input ≡ old.input → new.output ≡ old.output → status ≡ status_of (outcome_of_refusal error) → (i b : List ℕ) → old.input ≡ Some i → old.output ≡ Some b → (l : List ℕ) × (a : List ℕ) × (new.input ≡ Some l) × (new.output ≡ Some a) × ScriptEnds status (record { input = i; left = l; before = b; after = a; old = old; new = new })
 refused_tells strip s back error old new status tells same kept is_old is_new same_input same_output n i b is_i is_b =
     (i, b, same_input ∙ is_i, same_output ∙ is_b, subst (λ (k : ℕ). ScriptEnds k bytes) (sym n) (by_error error tells))
   where
@@ -383,14 +383,6 @@ refused_tells strip s back error old new status tells same kept is_old is_new sa
     by_error (journal.TornHeader at) t = torn bytes (refl, refl) strip_same (λ found is. let k = known_told strip s found (sym is_old ∙ is) in (at, subst (λ (x : List ℕ). IsTornAt x at) k.1 (t k.0)))
     by_error journal.Memory t = too_short bytes (inr ((refl, refl), strip_same)) (inl (refl, refl))
 
-pub same_state : (a b : HostState) → a.input ≡ b.input → a.output ≡ b.output → a.strip ≡ b.strip → a.device_faults ≡ b.device_faults → a.stream_faults ≡ b.stream_faults → a ≡ b
-same_state a b input output strip devices streams =
-    ap (λ (x : Option (List ℕ)). record a { input = x }) input
-    ∙ ap (λ (x : Option (List ℕ)). record a { input = b.input; output = x }) output
-    ∙ ap (λ (x : Option (List ℕ)). record a { input = b.input; output = b.output; strip = x }) strip
-    ∙ ap (λ (n : ℕ). record b { device_faults = n; stream_faults = a.stream_faults }) devices
-    ∙ ap (λ (n : ℕ). record b { stream_faults = n }) streams
-
 -- the same, by a host's state after its notes and by the status of the call
-pub tells_at : (old new other : HostState) (status as_answered : ℕ) → status ≡ as_answered → new ≡ other → (i b : List ℕ) → (l : List ℕ) × (a : List ℕ) × (new.input ≡ Some l) × (new.output ≡ Some a) × ScriptEnds status (record { input = i; left = l; before = b; after = a; old = old; new = new }) → (l : List ℕ) × (a : List ℕ) × (other.input ≡ Some l) × (other.output ≡ Some a) × ScriptEnds as_answered (record { input = i; left = l; before = b; after = a; old = old; new = other })
-tells_at old new other status as_answered same e i b t = subst (λ (h : HostState). (l : List ℕ) × (a : List ℕ) × (h.input ≡ Some l) × (h.output ≡ Some a) × ScriptEnds as_answered (record { input = i; left = l; before = b; after = a; old = old; new = h })) e (subst (λ (k : ℕ). (l : List ℕ) × (a : List ℕ) × (new.input ≡ Some l) × (new.output ≡ Some a) × ScriptEnds k (record { input = i; left = l; before = b; after = a; old = old; new = new })) same t)
+pub tells_at : (old new other : HomeState) (status as_answered : ℕ) → status ≡ as_answered → new ≡ other → (i b : List ℕ) → (l : List ℕ) × (a : List ℕ) × (new.input ≡ Some l) × (new.output ≡ Some a) × ScriptEnds status (record { input = i; left = l; before = b; after = a; old = old; new = new }) → (l : List ℕ) × (a : List ℕ) × (other.input ≡ Some l) × (other.output ≡ Some a) × ScriptEnds as_answered (record { input = i; left = l; before = b; after = a; old = old; new = other })
+tells_at old new other status as_answered same e i b t = subst (λ (h : HomeState). (l : List ℕ) × (a : List ℕ) × (h.input ≡ Some l) × (h.output ≡ Some a) × ScriptEnds as_answered (record { input = i; left = l; before = b; after = a; old = old; new = h })) e (subst (λ (k : ℕ). (l : List ℕ) × (a : List ℕ) × (new.input ≡ Some l) × (new.output ≡ Some a) × ScriptEnds k (record { input = i; left = l; before = b; after = a; old = old; new = new })) same t)

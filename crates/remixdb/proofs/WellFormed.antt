@@ -7,8 +7,8 @@ use Rattle.history_core.specs.declared.request.Request.{Request}
 use Rattle.history_core.specs.declared.request.Request.TheVariants.{Quit}
 use Rattle.wire_protocol.specs.Grammar.{spell_request, spell_requests, IsRequest}
 use Rattle.wire_protocol.specs.Messages.{wanted}
-use Rattle.wire_protocol.specs.Answer.{refusal}
-use Rattle.wire_protocol.proofs.Whole.{same_request, nothing_wanted, no_refusal}
+use Rattle.wire_protocol.specs.Decoding.{refusal}
+use Rattle.wire_protocol.proofs.MessageLemmas.{same_request, nothing_wanted, no_refusal}
 use Rattle.session_core.specs.Conversations.{NoQuit, EndsWithQuit, is_quit, IsRefused}
 use Rattle.remixdb.specs.Scripts.{IsWellFormed}
 
@@ -42,9 +42,9 @@ no_quit_before front tail h =
     wrong : true ≡ false → ⊥
     wrong e = cc
 
--- what stands behind requests, none of which is a QUIT, in bytes that are whole requests
+-- what stands after requests, none of which is a QUIT, in bytes that are whole requests
 abbrev pub Next : List ℕ → Type 0
-Next more = ((request : Request) × (behind : List ℕ) × IsRequest request × (more ≡ spell_request request ++ behind)) ⊎ (more ≡ [])
+Next more = ((request : Request) × (rest : List ℕ) × IsRequest request × (more ≡ spell_request request ++ rest)) ⊎ (more ≡ [])
 
 no_more : (front more : List ℕ) → [] ≡ front ++ more → more ≡ []
 no_more front more e = nil_from_length more (omega (arith, ap length e, length-append front more))
@@ -66,7 +66,7 @@ pub never_cut : (input : List ℕ) (asked : List Request) (more : List ℕ) → 
 never_cut input asked more well fit no_quit e some lacks = by_next (next_is input asked more well fit no_quit e)
   where
     by_next : Next more → ⊥
-    by_next (inl (request, behind, fits, is)) = omega (arith, ap wanted is, nothing_wanted request behind fits, lacks)
+    by_next (inl (request, after, fits, is)) = omega (arith, ap wanted is, nothing_wanted request after fits, lacks)
     by_next (inr none) = omega (arith, ap length none, some)
 
 pub never_refused : (input : List ℕ) (asked : List Request) (more held rest : List ℕ) (code : ℕ) → IsWellFormed input → AllByRecursion IsRequest asked → NoQuit asked → input ≡ spell_requests asked ++ more → more ≡ held ++ rest → IsRefused held code → ⊥
@@ -83,5 +83,5 @@ never_refused input asked more held rest code well fit no_quit e split refused =
     not_both a b = let both : None ≡ Some code = sym a ∙ b in cc
 
     by_next : Next more → ⊥
-    by_next (inl (request, behind, fits, is)) = not_both (no_refusal request held behind rest fits refused.within refused.whole (sym split ∙ is)) refused.code_is
+    by_next (inl (request, after, fits, is)) = not_both (no_refusal request held after rest fits refused.within refused.whole (sym split ∙ is)) refused.code_is
     by_next (inr none) = empty_lacks held (front_none (sym split ∙ none)) refused.whole

@@ -4,10 +4,10 @@ use Rattle.disk_model.specs.declared.strip.Strip.{Ghosts}
 use Rattle.frame_journal.specs.FrameValue.{FrameValue}
 use Rattle.frame_journal.specs.JournalState.{JournalState, has_staged}
 use Rattle.frame_journal.specs.Journals.{standing}
-use Rattle.session_core.specs.Machines.{MapState}
+use Rattle.session_core.specs.PlainMap.{MapState}
 use Rattle.remixdb.specs.MapRows.{MapRows}
 
--- the payloads of frames, one behind the other
+-- the payloads of frames, one after the other
 abbrev pub joined : List FrameValue → List ℕ
 joined [] = []
 joined (frame ∷ frames) = frame.payload ++ joined frames
@@ -20,7 +20,7 @@ pending journal = if has_staged journal then journal.payload else []
 abbrev pub log_bytes : {S : Type 0} → Ghosts S → JournalState S → List ℕ → List ℕ
 log_bytes strip journal kept = joined (standing strip journal) ++ (pending journal ++ kept)
 
--- the log, where the strip tells its bytes
+-- the log, where contracts see the bytes of the strip
 abbrev pub log_of : {S : Type 0} → Ghosts S → JournalState S → List ℕ → Option (List ℕ)
 log_of strip journal kept = if strip.tells journal.strip then Some (log_bytes strip journal kept) else None
 

@@ -30,7 +30,7 @@ outcome_of_end SourceFault = StreamFailed
 outcome_of_end SinkFault = StreamFailed
 outcome_of_end Memory = OutOfMemory
 
--- the device that failed in a call, and whether memory was refused in it
+-- the device that failed in a call, and whether it was out of memory
 abbrev pub failed_of : {T : Type 0} → Result T DeviceError → Option ℕ
 failed_of (Ok done) = None
 failed_of (Err (device.Fault unit)) = Some unit.device
@@ -47,7 +47,7 @@ least_of None other = other
 least_of (Some one) None = Some one
 least_of (Some one) (Some other) = Some (min one other)
 
--- What came of a run: memory that was refused comes first, then the least device of which there is a unit, and then how
+-- What came of a run: out of memory comes first, then the least device of which there is a unit, and then how
 -- the session ended.
 abbrev pub outcome_by : Bool → Bool → Option ℕ → SessionEnd → Outcome
 outcome_by true short failed end = OutOfMemory

@@ -2,7 +2,7 @@
 ghost use Rattle.std.specs.Prelude.{◌↔◌, IsTrue, IsSome};
 ghost use Rattle.remixdb.specs.Words.{IsScript};
 
-use crate::word::Word;
+use host_model::Word;
 
 /// What the program can be asked to do.
 pub(crate) enum Command {

@@ -1,6 +1,6 @@
-ghost use Rattle.std.specs.Prelude.{◌≡◌, ◌≤◌, ◌<◌, ◌+◌, ◌^◌, false, length};
-ghost use Rattle.frame_journal.specs.JournalState.{is_in_doubt};
-ghost use Rattle.session_core.specs.Answering.{PutAnswer, PutCause};
+ghost use Rattle.std.specs.Prelude.{◌≡◌, ◌≤◌, ◌<◌, ◌+◌, ◌^◌, false, length, OnOk};
+ghost use Rattle.frame_journal.specs.JournalState.{has_staged, is_in_doubt};
+ghost use Rattle.session_core.specs.StoreCalls.{PutAnswer, PutCause};
 ghost use Rattle.remixdb.specs.Logged.{map_of, counts_of};
 ghost use Rattle.remixdb.specs.declared.logged_map.TheConstants.{KEPT_MAX};
 
@@ -42,6 +42,9 @@ impl<S: Strip> Answers for LogAnswers<S> {
         requires { pass.old.map.number < 2 ^ 62 }
         ensures answer { PutAnswer (map_of S.Strip pass.old.map pass.old.journal pass.old.kept.items) key value result (map_of S.Strip pass.new.map pass.new.journal pass.new.kept.items) }
         ensures cause { PutCause (λ device. record { device = device }) (counts_of S.Strip pass.old.journal) (counts_of S.Strip pass.new.journal) result }
+
+        // At the bound what was kept is settled in this call.
+        ensures settled { OnOk result (KEPT_MAX ≤ length pass.old.kept.items → has_staged pass.new.journal ≡ false) }
 
         // The strip is called only where it must be, and at most so often.
         ensures quiet { is_in_doubt pass.old.journal ≡ false → length pass.old.kept.items < KEPT_MAX → pass.new.journal ≡ pass.old.journal }

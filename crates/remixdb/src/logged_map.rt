@@ -2,7 +2,7 @@ ghost use Rattle.std.specs.Prelude.{◌≡◌, ◌<◌, ◌≤◌, ◌+◌, ◌^
 ghost use Rattle.rdb_base.specs.Maps.{changed};
 ghost use Rattle.rdb_base.specs.declared.change.Change.TheVariants as changes;
 ghost use Rattle.wire_protocol.specs.Grammar.{spell_request as request_bytes};
-ghost use Rattle.session_core.specs.Machines.{put_request};
+ghost use Rattle.session_core.specs.PlainMap.{put_request};
 ghost use Rattle.frame_journal.specs.JournalState.{is_ready, has_staged, is_in_doubt};
 ghost use Rattle.frame_journal.specs.Devices.{CauseIn, OfBytes, KeepsBytes};
 ghost use Rattle.frame_journal.specs.Causes.{OpeningCause};
@@ -22,6 +22,8 @@ use wire_protocol::{MESSAGE_MAX, spell_request};
 
 /// So many kept bytes are settled before another update is entered.
 pub const KEPT_MAX: usize = 262_144;
+
+const _: () = prove!(KEPT_MAX == 262_144);
 
 /// The most bytes that are kept: less than `KEPT_MAX`, and one message more.
 const KEPT_ROOM: usize = KEPT_MAX + MESSAGE_MAX;
@@ -145,6 +147,7 @@ impl<S: Strip> LoggedMap<S> {
         ensures nothing { is_in_doubt self.old.journal ≡ false → length self.old.kept.items < KEPT_MAX →
             (result ≡ Ok tt) × (self.new ≡ self.old) }
         ensures enough { OnOk result (KEPT_MAX ≤ length self.old.kept.items → self.new.kept.items ≡ []) }
+        ensures idle { OnOk result (KEPT_MAX ≤ length self.old.kept.items → has_staged self.new.journal ≡ false) }
         ensures doubt { OnOk result (is_in_doubt self.new.journal ≡ false) }
         ensures room { OnOk result (length self.new.kept.items < KEPT_MAX) }
         ensures map { self.new.map ≡ self.old.map }
@@ -186,7 +189,7 @@ impl<S: Strip> LoggedMap<S> {
         Ok(number)
     }
 
-    /// Settles all that is kept, and gives the strip back. At `Ok` its payloads are the log.
+    /// Settles all that is kept, and gives the strip back. If it succeeds, its payloads are the log.
     pub(crate) fn close(mut self, alloc: Global) -> (S, Result<(), DeviceError>)
         ensures log { OnOk result.1 (OfBytes S.Strip result.0 (λ bytes. log_of S.Strip self.journal self.kept.items ≡ Some (joined (frames_of bytes)))) }
         ensures stands { OnOk result.1 (OfBytes S.Strip result.0 (λ bytes. StandsFor (frames_of bytes) bytes)) }

@@ -6,56 +6,60 @@
 //!              in order; each status has its cause (`specs/Scripts.antt`)
 //! Goes in      the words of a command line, and a host: a strip, a source, a sink, a place for notes
 //! Comes out    a status, and a line of the notes for each status but 0
-//! Stands on    session_core, frame_journal, disk_model, link_model, wire_protocol, history_core, rdb_base
-//! Used by      people and programs
+//! Stands on    host_model, session_core, frame_journal, disk_model, link_model, fault_count, wire_protocol, history_core,
+//!              rdb_base
+//! Begin at     src/program.rt, `program`; src/top.rt, `remixdb`
 //! Leaves open  what the standard streams hold
 #![tactic(auto)]
 
+mod arguments;
 mod command;
-mod host;
 mod log_answers;
 mod logged_map;
-mod memory_host;
 mod ordered_map;
 mod outcome;
+mod program;
 mod script;
-mod stream_lending;
-mod strip_lending;
 mod system_host;
 #[cfg(test)]
 mod tests;
 mod top;
-mod word;
 
+use crate::arguments::ArgumentsError;
+use crate::outcome::Outcome;
+use crate::program::program;
 use crate::system_host::SystemHost;
-use crate::top::remixdb;
-use crate::word::Word;
 use std::env;
+use std::io::{ErrorKind, Write};
 use std::process::ExitCode;
 
-/// The words after the program's name. None where the system gives none, one is no text, or memory is refused.
-fn words_of(rt: &HostRuntime) -> Option<Vec<Word>> {
-    let mut words = Vec::new(rt.alloc());
-    let Ok(args) = env::args(rt) else {
-        return None;
-    };
-    for arg in args.skip(1) {
-        let Ok(word) = Word::try_new(rt.alloc(), arg.as_str()) else {
-            return None;
-        };
-        if words.push(word).is_err() {
-            return None;
-        }
+/// The arguments that the system gives, the program's name first.
+fn arguments_of(rt: &HostRuntime) -> Result<Vec<String>, ArgumentsError> {
+    match env::args(rt) {
+        Ok(arguments) => match arguments.collect(rt.alloc()) {
+            Ok(arguments) => Ok(arguments),
+            Err(_) => Err(ArgumentsError::Memory),
+        },
+        Err(error) if error.kind() == ErrorKind::OutOfMemory => Err(ArgumentsError::Memory),
+        Err(_) => Err(ArgumentsError::NotText),
     }
-    Some(words)
+}
+
+/// Out of memory before there is a host: the line and the status of it.
+fn without_host(rt: &HostRuntime) -> ExitCode {
+    if let Some(line) = Outcome::OutOfMemory.fixed_line() {
+        let _ = rt.stderr().write_all(line.as_bytes());
+    }
+    ExitCode::from(Outcome::OutOfMemory.status())
 }
 
 fn main(rt: HostRuntime) -> ExitCode {
-    let Some(words) = words_of(&rt) else {
-        return ExitCode::from(2);
-    };
     let Ok(mut host) = SystemHost::new(rt.alloc(), rt.stdin(), rt.stdout(), rt.stderr()) else {
-        return ExitCode::from(6);
+        return without_host(&rt);
     };
-    ExitCode::from(remixdb(rt.alloc(), &words, &mut host))
+    let status = match arguments_of(&rt) {
+        Ok(arguments) => program(rt.alloc(), Ok(&arguments), &mut host),
+        Err(error) => program(rt.alloc(), Err(error), &mut host),
+    };
+    ExitCode::from(status)
 }

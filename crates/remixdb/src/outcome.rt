@@ -21,7 +21,7 @@ pub enum Outcome {
     DeviceFailed { device: u8 },
     /// A stream failed.
     StreamFailed,
-    /// Memory was refused, and no reply could say so.
+    /// Out of memory, and no reply could say so.
     OutOfMemory,
 }
 
@@ -115,26 +115,31 @@ impl Outcome {
         }
     }
 
-    /// Its line for the notes, if it has one.
-    pub(crate) fn line(self, alloc: Global) -> Result<Option<String>, NoMemory> {
+    /// Its line for the notes, if it has one with no number in it.
+    pub(crate) fn fixed_line(self) -> Option<&'static str> {
+        match self {
+            Outcome::BadMessage => Some("remixdb: session ended by a bad message\n"),
+            Outcome::UnknownWords => Some("remixdb: words are not in the stated form\n"),
+            Outcome::StreamFailed => Some("remixdb: stream failed\n"),
+            Outcome::OutOfMemory => Some("remixdb: out of memory\n"),
+            Outcome::Done | Outcome::TornHeader { .. } | Outcome::DeviceFailed { .. } => None,
+        }
+    }
+
+    /// Its line for the notes, if it has one with a number in it.
+    pub(crate) fn numbered_line(self, alloc: Global) -> Result<Option<String>, NoMemory> {
         let line = match self {
-            Outcome::Done => return Ok(None),
-            Outcome::BadMessage => String::from_str(
-                alloc,
-                "remixdb: session ended by a bad message\n",
-            )?,
-            Outcome::UnknownWords => String::from_str(
-                alloc,
-                "remixdb: words are not in the stated form\n",
-            )?,
             Outcome::TornHeader { at } => {
                 format!(in alloc; "remixdb: devices refused: TornHeader strip 0 at {at}\n")?
             }
             Outcome::DeviceFailed { device } => format!(in alloc;
                 "remixdb: device {device} failed\n"
             )?,
-            Outcome::StreamFailed => String::from_str(alloc, "remixdb: stream failed\n")?,
-            Outcome::OutOfMemory => String::from_str(alloc, "remixdb: out of memory\n")?,
+            Outcome::Done
+            | Outcome::BadMessage
+            | Outcome::UnknownWords
+            | Outcome::StreamFailed
+            | Outcome::OutOfMemory => return Ok(None),
         };
         Ok(Some(line))
     }

@@ -1,41 +1,38 @@
 //! All that the program does.
-ghost use Rattle.std.specs.Prelude.{◌≡◌, ◌≤◌, ◌↔◌, None};
-ghost use Rattle.link_model.specs.Faults.{Rose};
+ghost use Rattle.std.specs.Prelude.{◌≡◌, ◌≤◌, ◌↔◌};
+ghost use Rattle.fault_count.specs.Counts.{Rose};
 ghost use Rattle.remixdb.specs.Words.{IsScript};
 ghost use Rattle.remixdb.specs.Outcomes.{status_of, IsCleanOfDevices, IsCleanOfStreams};
-ghost use Rattle.remixdb.specs.Scripts.{ScriptTells, state_of};
+ghost use Rattle.host_model.specs.HostState.{IsAllHome};
+ghost use Rattle.remixdb.specs.Scripts.{HasCauses, ScriptTells, home_of};
 
 use crate::command::{Command, command_of};
-use crate::host::Host;
 use crate::outcome::Outcome;
 use crate::script::script;
-use crate::word::Word;
+use host_model::{Host, Word};
 use std::alloc::Global;
 
-/// Writes the outcome's line to the notes. Where there is no memory for it, nothing is written.
-fn tell<H: Host>(alloc: Global, outcome: Outcome, host: &mut H)
-    ensures streams { (H.input host.new ≡ H.input host.old) × (H.output host.new ≡ H.output host.old) × (H.lent host.new ≡ H.lent host.old) × (H.stream_faults host.new ≡ H.stream_faults host.old) }
-    ensures strip { (H.strip_bytes host.new ≡ H.strip_bytes host.old) × (H.lent_strip host.new ≡ H.lent_strip host.old) × (H.device_faults host.new ≡ H.device_faults host.old) }
+/// Writes the outcome's line to the notes. Where there is no memory for its numbers, nothing is written.
+pub(crate) fn tell<H: Host>(alloc: Global, outcome: Outcome, host: &mut H)
+    ensures { H.state host.new ≡ H.state host.old }
 {
-    match outcome.line(alloc) {
+    if let Some(line) = outcome.fixed_line() {
+        host.note(line.as_bytes());
+        return;
+    }
+    match outcome.numbered_line(alloc) {
         Ok(Some(line)) => host.note(line.as_bytes()),
-        Ok(None) => {}
-        Err(_) => {}
+        Ok(None) | Err(_) => {}
     }
 }
 
 fn run<H: Host>(alloc: Global, words: &[Word], host: &mut H) -> Outcome
-    requires streams { H.lent host.old ≡ None }
-    requires strip { H.lent_strip host.old ≡ None }
-    ensures streams_home { H.lent host.new ≡ None }
-    ensures strip_home { H.lent_strip host.new ≡ None }
+    requires { IsAllHome (H.state host.old) }
+    ensures home { IsAllHome (H.state host.new) }
     ensures words { (status_of result ≡ 2) ↔ (IsScript words.now → ⊥) }
-    ensures device_failed { status_of result ≡ 4 → Rose (H.device_faults host.old) (H.device_faults host.new) }
-    ensures device_kept { IsCleanOfDevices (status_of result) → H.device_faults host.new ≡ H.device_faults host.old }
-    ensures stream_failed { status_of result ≡ 5 → Rose (H.stream_faults host.old) (H.stream_faults host.new) }
-    ensures stream_kept { IsCleanOfStreams (status_of result) → H.stream_faults host.new ≡ H.stream_faults host.old }
-    ensures bytes { IsScript words.now → ScriptTells (status_of result) (state_of H.Host host.old) (state_of H.Host host.new) }
-    ensures idle { (IsScript words.now → ⊥) → state_of H.Host host.new ≡ state_of H.Host host.old }
+    ensures idle { (IsScript words.now → ⊥) → H.state host.new ≡ H.state host.old }
+    ensures causes { HasCauses (status_of result) (H.state host.old) (H.state host.new) }
+    ensures bytes { IsScript words.now → ScriptTells (status_of result) (home_of (H.state host.old)) (home_of (H.state host.new)) }
 {
     match command_of(words) {
         Some(Command::Script) => script(alloc, host),
@@ -54,31 +51,29 @@ fn run<H: Host>(alloc: Global, words: &[Word], host: &mut H) -> Outcome
 /// | 3 | the strip is no journal: a header is torn |
 /// | 4 | a device failed, at opening, in the session or at its end |
 /// | 5 | a stream failed |
-/// | 6 | memory was refused, and no reply could say so |
+/// | 6 | out of memory, and no reply could say so |
 pub fn remixdb<H: Host>(alloc: Global, words: &[Word], host: &mut H) -> u8
-    requires streams { H.lent host.old ≡ None }
-    requires strip { H.lent_strip host.old ≡ None }
+    requires { IsAllHome (H.state host.old) }
 
     // The streams and the strip are back.
-    ensures streams_home { H.lent host.new ≡ None }
-    ensures strip_home { H.lent_strip host.new ≡ None }
+    ensures home { IsAllHome (H.state host.new) }
 
     // Status 2 is exactly that of words in another form, and then nothing is taken, put or written, and no fault counted.
     ensures words { (result ≡ 2) ↔ (IsScript words.now → ⊥) }
-    ensures idle { (IsScript words.now → ⊥) → state_of H.Host host.new ≡ state_of H.Host host.old }
+    ensures idle { (IsScript words.now → ⊥) → H.state host.new ≡ H.state host.old }
     ensures least { result ≤ 6 }
 
-    // Status 4 comes only where a device's fault was counted, and a status that yields to it passes over none.
-    ensures device_failed { result ≡ 4 → Rose (H.device_faults host.old) (H.device_faults host.new) }
-    ensures device_kept { IsCleanOfDevices result → H.device_faults host.new ≡ H.device_faults host.old }
+    // Status 4 comes only if a device's fault was counted, and a status of lower rank never if one was.
+    ensures device_failed { result ≡ 4 → Rose (H.state host.old).strip.faults (H.state host.new).strip.faults }
+    ensures device_kept { IsCleanOfDevices result → (H.state host.new).strip.faults ≡ (H.state host.old).strip.faults }
 
-    // Status 5 comes only where a stream's fault was counted, and a status that yields to it passes over none.
-    ensures stream_failed { result ≡ 5 → Rose (H.stream_faults host.old) (H.stream_faults host.new) }
-    ensures stream_kept { IsCleanOfStreams result → H.stream_faults host.new ≡ H.stream_faults host.old }
+    // Status 5 comes only if a stream's fault was counted, and a status of lower rank never if one was.
+    ensures stream_failed { result ≡ 5 → Rose (H.state host.old).streams.faults (H.state host.new).streams.faults }
+    ensures stream_kept { IsCleanOfStreams result → (H.state host.new).streams.faults ≡ (H.state host.old).streams.faults }
 
-    // Over a host that tells its bytes: which requests came and were taken, what was put, what is on the strip, and why it
-    // ended so.
-    ensures bytes { IsScript words.now → ScriptTells result (state_of H.Host host.old) (state_of H.Host host.new) }
+    // If contracts can see the host's bytes: which requests came and were taken, what was put, what is on the strip, and
+    // why it ended so.
+    ensures bytes { IsScript words.now → ScriptTells result (home_of (H.state host.old)) (home_of (H.state host.new)) }
 {
     let outcome = run(alloc, words, host);
     tell(alloc, outcome, host);

@@ -2,16 +2,16 @@
 //!
 //! Calls of a strip that begins empty: 0 to 2 open it, 3 to 6 clear it, and then each settle has four: the body's
 //! write, a sync, the gate's write, a sync.
-use crate::tests::running::{Given, Wanted, joined, journal_of, run, script};
+use crate::tests::running::{Given, Wanted, concat, journal_of, run, script};
 use crate::tests::samples::{BYE, DEVICE_0, DONE_0, PUT, QUIT};
 use std::test::Fail;
 
 #[test]
 fn a_failing_device_is_told(rt: HostRuntime) -> Result<(), Fail> {
-    let written = joined(&rt, &[&[0, 0, 0, 0, 13], PUT, &[0]])?;
+    let written = concat(&rt, &[&[0, 0, 0, 0, 13], PUT, &[0]])?;
     let one = journal_of(&rt, &[PUT])?;
-    let answered = joined(&rt, &[DONE_0, BYE])?;
-    let input = joined(&rt, &[PUT, QUIT])?;
+    let answered = concat(&rt, &[DONE_0, BYE])?;
+    let input = concat(&rt, &[PUT, QUIT])?;
     let cases: &[(&[u64], &[u8], &[u8], &[u8])] = &[
         // At opening nothing is taken or answered.
         (&[0], &[], &input, &[]),
@@ -41,7 +41,7 @@ fn a_failing_device_is_told(rt: HostRuntime) -> Result<(), Fail> {
 
 #[test]
 fn a_torn_header_is_refused_at_its_place(rt: HostRuntime) -> Result<(), Fail> {
-    // One whole frame of a byte, and behind it, at place 6, an open gate without a frame.
+    // One whole frame of a byte, and after it, at place 6, an open gate without a frame.
     let strip: &[u8] = &[0xA5, 0, 0, 0, 1, 7, 0xA5, 0, 0];
     let given = Given {
         strip,
@@ -61,8 +61,8 @@ fn a_torn_header_is_refused_at_its_place(rt: HostRuntime) -> Result<(), Fail> {
 fn a_failed_device_comes_before_a_failed_stream_and_a_bad_message(
     rt: HostRuntime,
 ) -> Result<(), Fail> {
-    let written = joined(&rt, &[&[0, 0, 0, 0, 13], PUT, &[0]])?;
-    let input = joined(&rt, &[PUT, &[0, 0, 0]])?;
+    let written = concat(&rt, &[&[0, 0, 0, 0, 13], PUT, &[0]])?;
+    let input = concat(&rt, &[PUT, &[0, 0, 0]])?;
     let cases: &[(&[u64], &[u8])] = &[(&[2], &[0, 0, 0]), (&[], &[])];
     for (source_fails, left) in cases {
         let given = Given {

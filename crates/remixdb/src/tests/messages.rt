@@ -1,10 +1,10 @@
 //! Messages that are refused, and messages that the input does not end.
-use crate::tests::running::{ends_with, joined};
+use crate::tests::running::{concat, ends_with};
 use crate::tests::samples::{DONE_0, GET, PUT, VALUE_1, bad_message};
 use std::process::Abort;
 use std::test::Fail;
 
-/// A message is refused with this code, at the input's start and behind a request. What follows it is not taken.
+/// A message is refused with this code, at the input's start and after a request. What follows it is not taken.
 fn is_refused(rt: &(impl Abort + AllocGlobal), message: &[u8], code: u8) -> Result<(), Fail> {
     let first = bad_message(0, code);
     ends_with(rt, 1, &[message, PUT], PUT, &[&first], &[])?;
@@ -66,8 +66,8 @@ fn a_body_that_ends_inside_a_field_has_code_3(rt: HostRuntime) -> Result<(), Fai
 #[test]
 fn a_key_length_out_of_range_has_code_4(rt: HostRuntime) -> Result<(), Fail> {
     let key = [0x61; 1025];
-    let put = joined(&rt, &[&[0, 0, 4, 9, 1, 4, 1], &key, &[0, 0, 0, 1, 0x31]])?;
-    let get = joined(&rt, &[&[0, 0, 4, 4, 3, 4, 1], &key])?;
+    let put = concat(&rt, &[&[0, 0, 4, 9, 1, 4, 1], &key, &[0, 0, 0, 1, 0x31]])?;
+    let get = concat(&rt, &[&[0, 0, 4, 4, 3, 4, 1], &key])?;
     let cases: &[&[u8]] = &[
         &[0, 0, 0, 8, 1, 0, 0, 0, 0, 0, 1, 0x31],
         &put,
@@ -88,14 +88,14 @@ fn a_key_length_out_of_range_has_code_4(rt: HostRuntime) -> Result<(), Fail> {
 fn a_value_length_out_of_range_has_code_5(rt: HostRuntime) -> Result<(), Fail> {
     let alloc = rt.alloc();
     let value = vec![in alloc; 0x76u8; 65_536]?;
-    let put = joined(&rt, &[&[0, 1, 0, 8, 1, 0, 1, 0x61, 0, 1, 0, 0], &value])?;
+    let put = concat(&rt, &[&[0, 1, 0, 8, 1, 0, 1, 0x61, 0, 1, 0, 0], &value])?;
     is_refused(&rt, &put, 5)?;
     // Before the value is missed.
     is_refused(&rt, &[0, 0, 0, 8, 1, 0, 1, 0x61, 0, 1, 0, 0], 5)
 }
 
 #[test]
-fn bytes_behind_the_last_field_have_code_7(rt: HostRuntime) -> Result<(), Fail> {
+fn bytes_after_the_last_field_have_code_7(rt: HostRuntime) -> Result<(), Fail> {
     let cases: &[&[u8]] = &[
         &[0, 0, 0, 2, 9, 0],
         &[0, 0, 0, 5, 3, 0, 1, 0x61, 0],
@@ -111,7 +111,7 @@ fn bytes_behind_the_last_field_have_code_7(rt: HostRuntime) -> Result<(), Fail> 
 fn a_place_past_two_bytes_is_told(rt: HostRuntime) -> Result<(), Fail> {
     let alloc = rt.alloc();
     let value = vec![in alloc; 0x76u8; 65_535]?;
-    let put = joined(
+    let put = concat(
         &rt,
         &[&[0, 1, 0, 7, 1, 0, 1, 0x61, 0, 0, 0xFF, 0xFF], &value],
     )?;

@@ -1,10 +1,9 @@
 //! A host in memory whose source gives few bytes at a time.
 ghost use Rattle.std.specs.Prelude.{◌<◌};
 
-use crate::host::Host;
-use crate::memory_host::MemoryHost;
 use crate::tests::piece_source::PieceSource;
 use disk_model::MemoryStrip;
+use host_model::{Host, MemoryHost};
 use link_model::ByteSink;
 
 /// A host in memory whose source gives at most so many bytes a call.
@@ -22,19 +21,7 @@ impl Host for PieceHost {
 
     type Out = ByteSink;
 
-    ghost strip_bytes = { λ h. ⟦<MemoryHost as Host>⟧.strip_bytes h.host };
-
-    ghost lent_strip = { λ h. ⟦<MemoryHost as Host>⟧.lent_strip h.host };
-
-    ghost device_faults = { λ h. ⟦<MemoryHost as Host>⟧.device_faults h.host };
-
-    ghost input = { λ h. ⟦<MemoryHost as Host>⟧.input h.host };
-
-    ghost output = { λ h. ⟦<MemoryHost as Host>⟧.output h.host };
-
-    ghost lent = { λ h. ⟦<MemoryHost as Host>⟧.lent h.host };
-
-    ghost stream_faults = { λ h. ⟦<MemoryHost as Host>⟧.stream_faults h.host };
+    ghost state = { λ h. ⟦<MemoryHost as Host>⟧.state h.host };
 
     fn strip(&mut self) -> MemoryStrip {
         self.host.strip()

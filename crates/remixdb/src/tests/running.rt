@@ -1,13 +1,14 @@
 //! What a run is given, what it must come to, and the run.
-ghost use Rattle.std.specs.Prelude.{◌≡◌, ◌<◌, None, IfOk};
+ghost use Rattle.std.specs.Prelude.{◌<◌, IfOk};
+ghost use Rattle.host_model.specs.HostState.{IsAllHome};
 
-use crate::host::Host;
-use crate::memory_host::MemoryHost;
+use crate::arguments::ArgumentsError;
+use crate::program::program;
 use crate::tests::piece_host::PieceHost;
 use crate::tests::samples::BAD;
 use crate::top::remixdb;
-use crate::word::Word;
 use disk_model::MemoryStrip;
+use host_model::{Host, MemoryHost, Word};
 use link_model::{ByteSink, ByteSource};
 use std::process::Abort;
 use std::test::Fail;
@@ -56,8 +57,7 @@ fn words_of(rt: &(impl Abort + AllocGlobal), words: &[&str]) -> Result<Vec<Word>
 }
 
 fn host_of(rt: &(impl Abort + AllocGlobal), given: Given) -> Result<MemoryHost, Fail>
-    ensures streams { IfOk result (λ host. ⟦<MemoryHost as Host>⟧.lent host ≡ None) }
-    ensures strip { IfOk result (λ host. ⟦<MemoryHost as Host>⟧.lent_strip host ≡ None) }
+    ensures { IfOk result (λ host. IsAllHome (⟦<MemoryHost as Host>⟧.state host)) }
 {
     let alloc = rt.alloc();
     let source = ByteSource::new(
@@ -101,6 +101,27 @@ pub fn run(
     came_to(rt, &host, status, wanted)
 }
 
+/// The program on these arguments, its name first, comes to this.
+pub fn run_program(
+    rt: &(impl Abort + AllocGlobal),
+    arguments: Result<&[&str], ArgumentsError>,
+    given: Given,
+    wanted: Wanted,
+) -> Result<(), Fail> {
+    let mut host = host_of(rt, given)?;
+    let status = match arguments {
+        Ok(arguments) => {
+            let mut texts = Vec::new(rt.alloc());
+            for argument in arguments {
+                texts.push(String::from_str(rt.alloc(), argument)?)?;
+            }
+            program(rt.alloc(), Ok(&texts), &mut host)
+        }
+        Err(error) => program(rt.alloc(), Err(error), &mut host),
+    };
+    came_to(rt, &host, status, wanted)
+}
+
 fn run_in_pieces(
     rt: &(impl Abort + AllocGlobal),
     given: Given,
@@ -126,8 +147,8 @@ pub fn script(rt: &(impl Abort + AllocGlobal), given: Given, wanted: Wanted) -> 
     run_in_pieces(rt, given, wanted, 7)
 }
 
-/// Pieces, one behind the other.
-pub fn joined(rt: &(impl Abort + AllocGlobal), pieces: &[&[u8]]) -> Result<Vec<u8>, Fail> {
+/// Pieces, one after the other.
+pub fn concat(rt: &(impl Abort + AllocGlobal), pieces: &[&[u8]]) -> Result<Vec<u8>, Fail> {
     let mut all = Vec::new(rt.alloc());
     for piece in pieces {
         all.extend_from_slice(piece)?;
@@ -137,12 +158,12 @@ pub fn joined(rt: &(impl Abort + AllocGlobal), pieces: &[&[u8]]) -> Result<Vec<u
 
 /// A strip as a journal leaves it: a frame with the updates that were accepted, or none.
 pub fn journal_of(rt: &(impl Abort + AllocGlobal), updates: &[&[u8]]) -> Result<Vec<u8>, Fail> {
-    let payload = joined(rt, updates)?;
+    let payload = concat(rt, updates)?;
     if payload.is_empty() {
-        return joined(rt, &[&[0]]);
+        return concat(rt, &[&[0]]);
     }
     let len = u32::try_from(payload.len())?;
-    joined(rt, &[&[0xA5], &len.to_be_bytes(), &payload, &[0]])
+    concat(rt, &[&[0xA5], &len.to_be_bytes(), &payload, &[0]])
 }
 
 /// A session over streams and a strip that do not fail ends with this status, does not take what is left of its input,
@@ -155,8 +176,8 @@ pub fn ends_with(
     output: &[&[u8]],
     updates: &[&[u8]],
 ) -> Result<(), Fail> {
-    let input = joined(rt, input)?;
-    let output = joined(rt, output)?;
+    let input = concat(rt, input)?;
+    let output = concat(rt, output)?;
     let strip = journal_of(rt, updates)?;
     let wanted = Wanted {
         status,

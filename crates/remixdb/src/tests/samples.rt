@@ -31,3 +31,5 @@ pub const UNKNOWN: &[u8] = b"remixdb: words are not in the stated form\n";
 pub const DEVICE_0: &[u8] = b"remixdb: device 0 failed\n";
 
 pub const FAILED: &[u8] = b"remixdb: stream failed\n";
+
+pub const OUT_OF_MEMORY: &[u8] = b"remixdb: out of memory\n";

@@ -1,5 +1,5 @@
 //! When a PUT settles the log: where enough is kept, or a frame is in doubt.
-use crate::tests::running::{Given, Wanted, joined, script};
+use crate::tests::running::{Given, Wanted, concat, script};
 use crate::tests::samples::{BYE, DEVICE_0, GET, PUT, QUIT};
 use std::process::Abort;
 use std::test::Fail;
@@ -15,7 +15,7 @@ const DONE_4: &[u8] = &[0, 0, 0, 9, 0x81, 0, 0, 0, 0, 0, 0, 0, 4];
 fn long_put(rt: &(impl Abort + AllocGlobal), len: u16) -> Result<Vec<u8>, Fail> {
     let value = vec![in rt.alloc(); 0x76u8; len as usize]?;
     let body = 8 + len as u32;
-    joined(
+    concat(
         rt,
         &[
             &body.to_be_bytes(),
@@ -38,10 +38,10 @@ fn leaves(
     second: &[u8],
 ) -> Result<(), Fail> {
     let long = long_put(rt, 65_535)?;
-    let four = joined(rt, &[&long, &long, &long, &long_put(rt, last)?])?;
-    let input = joined(rt, &[&four, PUT])?;
-    let output = joined(rt, &[&done(0), &done(1), &done(2), &done(3), DONE_4])?;
-    let strip = joined(rt, &[first, &four, second, PUT, &[0]])?;
+    let four = concat(rt, &[&long, &long, &long, &long_put(rt, last)?])?;
+    let input = concat(rt, &[&four, PUT])?;
+    let output = concat(rt, &[&done(0), &done(1), &done(2), &done(3), DONE_4])?;
+    let strip = concat(rt, &[first, &four, second, PUT, &[0]])?;
     let wanted = Wanted {
         status: 0,
         output: &output,
@@ -54,7 +54,7 @@ fn leaves(
 
 #[test]
 fn a_put_settles_where_enough_is_kept(rt: HostRuntime) -> Result<(), Fail> {
-    // 262,143 bytes are kept: the PUT behind them goes into their frame, which has 13 more.
+    // 262,143 bytes are kept: the PUT after them goes into their frame, which has 13 more.
     leaves(&rt, 65_490, &[0xA5, 0, 4, 0, 0x0C], &[])?;
     // 262,144 bytes are kept: they are settled, and the PUT goes into a frame of its own.
     leaves(&rt, 65_491, &[0xA5, 0, 4, 0, 0], &[0xA5, 0, 0, 0, 13])
@@ -69,15 +69,15 @@ fn is_in_doubt(
     replies: &[&[u8]],
 ) -> Result<(), Fail> {
     let long = long_put(rt, 65_535)?;
-    let four = joined(rt, &[&long, &long, &long, &long])?;
-    let requests = joined(rt, requests)?;
-    let input = joined(rt, &[&four, &requests, QUIT])?;
-    let replies = joined(rt, replies)?;
-    let output = joined(rt, &[&done(0), &done(1), &done(2), &done(3), &replies, BYE])?;
+    let four = concat(rt, &[&long, &long, &long, &long])?;
+    let requests = concat(rt, requests)?;
+    let input = concat(rt, &[&four, &requests, QUIT])?;
+    let replies = concat(rt, replies)?;
+    let output = concat(rt, &[&done(0), &done(1), &done(2), &done(3), &replies, BYE])?;
     // 262,188 bytes in the first frame.
     let first: &[u8] = &[0xA5, 0, 4, 0, 0x2C];
     let second: &[u8] = &[0xA5, 0, 0, 0, 13];
-    let strip = joined(rt, &[first, &four, second, PUT, &[0]])?;
+    let strip = concat(rt, &[first, &four, second, PUT, &[0]])?;
     let given = Given {
         device_fails,
         ..Given::input(&input)

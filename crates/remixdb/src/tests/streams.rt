@@ -41,7 +41,7 @@ fn a_sink_that_fails_when_all_is_passed_on_is_told(rt: HostRuntime) -> Result<()
     let none = journal_of(&rt, &[])?;
     let one = journal_of(&rt, &[PUT])?;
     let refusal = bad_message(0, 2);
-    // The last put, behind the replies, is of an empty piece, whichever way the session ended.
+    // The last put, after the replies, is of an empty piece, whichever way the session ended.
     let cases: &[(&[u8], &[u64], &[u8], &[u8])] = &[
         (&[], &[0], &[], &none),
         (PUT, &[1], DONE_0, &one),

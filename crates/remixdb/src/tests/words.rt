@@ -1,6 +1,7 @@
 //! The words of a command line.
-use crate::tests::running::{Given, Wanted, run};
-use crate::tests::samples::{PUT, UNKNOWN};
+use crate::arguments::ArgumentsError;
+use crate::tests::running::{Given, Wanted, run, run_program};
+use crate::tests::samples::{BYE, OUT_OF_MEMORY, PUT, QUIT, UNKNOWN};
 use std::test::Fail;
 
 #[test]
@@ -30,4 +31,42 @@ fn other_words_are_refused(rt: HostRuntime) -> Result<(), Fail> {
         run(&rt, words, Given::input(PUT), wanted)?;
     }
     Ok(())
+}
+
+/// Nothing is taken, put or written.
+fn ends_at_once(status: u8, notes: &'static [u8]) -> Wanted<'static> {
+    Wanted {
+        status,
+        output: &[],
+        left: QUIT,
+        strip: &[],
+        notes,
+    }
+}
+
+#[test]
+fn arguments_that_cannot_be_read_have_a_line(rt: HostRuntime) -> Result<(), Fail> {
+    let given = Given::input(QUIT);
+    let no_text = Err(ArgumentsError::NotText);
+    run_program(&rt, no_text, given, ends_at_once(2, UNKNOWN))?;
+    let memory = Err(ArgumentsError::Memory);
+    run_program(&rt, memory, given, ends_at_once(6, OUT_OF_MEMORY))
+}
+
+#[test]
+fn the_name_of_the_program_is_no_word(rt: HostRuntime) -> Result<(), Fail> {
+    let given = Given::input(QUIT);
+    let without_name: &[&[&str]] = &[&["script", "mem"], &[]];
+    for arguments in without_name {
+        run_program(&rt, Ok(*arguments), given, ends_at_once(2, UNKNOWN))?;
+    }
+    let wanted = Wanted {
+        status: 0,
+        output: BYE,
+        left: &[],
+        strip: &[0],
+        notes: b"",
+    };
+    let arguments: &[&str] = &["remixdb", "script", "mem"];
+    run_program(&rt, Ok(arguments), given, wanted)
 }

@@ -1,0 +1,3 @@
+-- What a host hands out and takes back, and what contracts see of it.
+pub mod Lent
+pub mod HostState
