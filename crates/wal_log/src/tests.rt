@@ -1,0 +1,169 @@
+//! The bytes of a segment, written out by hand; each device call failing alone; and each refusal of an opening.
+use crate::{LogError, PENDING_MAX, Segment};
+use disk_model::{DeviceError, MemoryStrip};
+use rdb_base::{Change, Entry, Key, NUMBER_MAX, Value};
+use std::alloc::Global;
+use std::process::Abort;
+use std::test::Fail;
+
+/// Segment 0 with the header that begins with number 0, PUT a=1 as entry 0, and a closed gate.
+const ONE: &[u8] =
+    b"\xA5\0\0\0\x11\0\0\0\0\0\0\0\0\0\0\0\0\0\0\0\0\0\xA5\0\0\0\x21\x01\0\0\0\0\0\0\0\0\0\0\0\x01\0\0\0\0\0\0\0\0\0\0\0\0\0\x01a\0\0\0\x011\0";
+
+fn entry_of(alloc: Global, ordinal: u64, key: &[u8]) -> Result<Entry, Fail> {
+    Ok(Entry {
+        caller: 0,
+        ordinal,
+        key: Key::try_new(alloc, key)?,
+        change: Change::Put(Value::try_new(alloc, b"1")?),
+    })
+}
+
+fn strip_of(alloc: Global, bytes: &[u8], failing: &[u64]) -> Result<MemoryStrip, Fail> {
+    let bytes = Vec::from_slice(alloc, bytes)?;
+    let failing = Vec::from_slice(alloc, failing)?;
+    Ok(MemoryStrip::new(alloc, 0, bytes, failing)?)
+}
+
+fn push(alloc: Global, segment: &mut Segment<MemoryStrip>, entry: &Entry) -> Result<u64, Fail> {
+    if !segment.is_started() || segment.pending() >= PENDING_MAX || segment.end() >= NUMBER_MAX {
+        return Err("the segment takes no entry")?;
+    }
+    segment.reserve(entry)?;
+    Ok(segment.push(entry))
+}
+
+/// How a flush ended: the number after the last entry, or None after a fault.
+fn flush(alloc: Global, segment: &mut Segment<MemoryStrip>) -> Result<Option<u64>, Fail> {
+    if !segment.is_started() {
+        return Err("the segment is not started")?;
+    }
+    match segment.flush(alloc) {
+        Ok(end) => Ok(Some(end)),
+        Err(DeviceError::Fault(_unit)) => Ok(None),
+        Err(DeviceError::Memory) => Err("out of memory")?,
+    }
+}
+
+#[test]
+fn a_put_that_is_flushed_has_these_bytes(rt: HostRuntime) -> Result<(), Fail> {
+    let alloc = rt.alloc();
+    let Ok((mut segment, entries)) = Segment::open(alloc, strip_of(alloc, b"", &[])?, 0, 0) else {
+        return Err("an empty strip is opened")?;
+    };
+    assert!(rt; entries.is_empty() && !segment.is_started());
+    segment.start(alloc)?;
+    assert_eq!(rt; push(alloc, &mut segment, &entry_of(alloc, 0, b"a")?)?, 0);
+    assert_eq!(rt; segment.pending(), 20);
+    assert_eq!(rt; flush(alloc, &mut segment)?, Some(1));
+    assert_eq!(rt; segment.pending(), 0);
+    assert_eq!(rt; segment.end(), 1);
+    assert_eq!(rt; segment.into_strip().as_bytes(), ONE);
+    Ok(())
+}
+
+/// ONE with these bytes in place of those from this place on.
+fn changed(alloc: Global, at: usize, bytes: &[u8]) -> Result<Vec<u8>, Fail> {
+    let (before, rest) = ONE.split_at(at.min(ONE.len()));
+    let (_, after) = rest.split_at(bytes.len().min(rest.len()));
+    let mut made = Vec::from_slice(alloc, before)?;
+    made.extend_from_slice(bytes)?;
+    made.extend_from_slice(after)?;
+    Ok(made)
+}
+
+#[test]
+fn what_is_no_segment_is_refused_by_name(rt: HostRuntime) -> Result<(), Fail> {
+    let alloc = rt.alloc();
+    let rows: [(usize, &[u8], &str); 7] = [
+        (60, b"\xA5", "TornHeader strip 0 at 60"),
+        (5, b"\x01", "BadEntry strip 0 frame 0 at 0"),
+        (
+            13,
+            b"\x01\0\0\0\0\0\0\0\x01",
+            "BadEntry strip 0 frame 0 at 1",
+        ),
+        (13, b"\x08\0\0\0\0\0\0\0\x08", "LogGap want 0 found 8"),
+        (39, b"\0", "BadEntry strip 0 frame 22 at 9"),
+        (35, b"\x02", "LogGap want 0 found 2"),
+        (21, b"\x02", "LogGap want 2 found 0"),
+    ];
+    for (at, bytes, wanted) in rows {
+        let strip = strip_of(alloc, changed(alloc, at, bytes)?.as_slice(), &[])?;
+        match Segment::open(alloc, strip, 0, 0) {
+            Ok(_opened) => Err("it was opened")?,
+            Err((_strip, error)) => {
+                assert_eq!(rt; format!(in alloc; "{error}")?.as_str(), wanted);
+            }
+        }
+    }
+    Ok(())
+}
+
+/// How far a segment came before its first fault: its strip, how many entries are surely synced, and how many there are.
+#[derive(Drop)]
+struct Stopped {
+    strip: MemoryStrip,
+    synced: usize,
+    pushed: usize,
+}
+
+/// Pushes and flushes this entry. Whether that went well.
+fn push_and_flush(
+    alloc: Global,
+    segment: &mut Segment<MemoryStrip>,
+    entry: &Entry,
+) -> Result<bool, Fail> {
+    push(alloc, segment, entry)?;
+    Ok(flush(alloc, segment)?.is_some())
+}
+
+/// Opens and starts a segment, and then pushes and flushes two entries, up to the first fault.
+fn until_a_fault(alloc: Global, strip: MemoryStrip, entries: &[Entry; 2]) -> Result<Stopped, Fail> {
+    let mut segment = match Segment::open(alloc, strip, 0, 0) {
+        Ok((segment, _entries)) => segment,
+        Err((strip, _error)) => return Ok(Stopped {
+            strip,
+            synced: 0,
+            pushed: 0,
+        }),
+    };
+    let (mut synced, mut pushed) = (0, 0);
+    if segment.start(alloc).is_ok() {
+        pushed = 1;
+        if push_and_flush(alloc, &mut segment, &entries[0])? {
+            synced = 1;
+            pushed = 2;
+            if push_and_flush(alloc, &mut segment, &entries[1])? {
+                synced = 2;
+            }
+        }
+    }
+    let strip = segment.into_strip();
+    Ok(Stopped {
+        strip,
+        synced,
+        pushed,
+    })
+}
+
+/// How many entries a strip has.
+fn count_on(alloc: Global, strip: MemoryStrip) -> Result<usize, Fail> {
+    match Segment::open(alloc, strip, 0, 0) {
+        Ok((_segment, entries)) => Ok(entries.len()),
+        Err((_strip, _error)) => Err("the strip is a segment's")?,
+    }
+}
+
+#[test]
+fn a_crash_leaves_what_was_synced_and_a_front_of_the_rest(rt: HostRuntime) -> Result<(), Fail> {
+    let alloc = rt.alloc();
+    let entries = [entry_of(alloc, 0, b"a")?, entry_of(alloc, 1, b"b")?];
+    for run in 0..96u64 {
+        let strip = strip_of(alloc, b"", &[run / 4])?;
+        let stopped = until_a_fault(alloc, strip, &entries)?;
+        let count = count_on(alloc, stopped.strip.crash(run % 4))?;
+        assert!(rt; stopped.synced <= count && count <= stopped.pushed);
+    }
+    Ok(())
+}
