@@ -1,0 +1,33 @@
+use std::fs::File;
+use std::io::{self, ErrorKind};
+use std::rt::Files;
+
+/// A file, as far as it is known.
+#[derive(Drop)]
+pub(crate) enum Opened {
+    /// No call has asked for it yet.
+    Unknown,
+    /// It is not there, so it reads as empty.
+    Absent,
+    There(File),
+}
+
+/// Opens the file, if it is there.
+pub(crate) fn open_present<R: Files<File = File>>(rt: &R, path: &str) -> io::Result<Opened> {
+    match File::options().read(true).write(true).open(rt, path) {
+        Ok(file) => Ok(Opened::There(file)),
+        Err(error) => {
+            if error.kind() == ErrorKind::NotFound {
+                return Ok(Opened::Absent);
+            }
+            Err(error)
+        }
+    }
+}
+
+/// Opens the file, and makes it if it is absent.
+pub(crate) fn open_or_make<R: Files<File = File>>(rt: &R, path: &str) -> io::Result<File> {
+    let mut options = File::options();
+    options.read(true).write(true).create(true);
+    options.open(rt, path)
+}
