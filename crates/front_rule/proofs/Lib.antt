@@ -1,0 +1,11 @@
+pub mod KeyLemmas
+pub mod BaseLemmas
+pub mod RuleLemmas
+pub mod CallLemmas
+pub mod StandsLemmas
+pub mod AppendLemmas
+pub mod LearnLemmas
+pub mod PenLemmas
+pub mod FreezeLemmas
+pub mod CutLemmas
+pub mod KeepLemmas
