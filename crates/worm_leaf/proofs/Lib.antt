@@ -1,0 +1,3 @@
+pub mod PartingLemmas
+pub mod KeyPlaceLemmas
+pub mod LeafLemmas

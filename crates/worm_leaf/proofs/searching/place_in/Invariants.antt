@@ -1,0 +1,5 @@
+-- The ledger of the steps.
+use Rattle.worm_leaf.proofs.searching.place_in.Given as goal
+
+abbrev pub ghosts-counted_place : goal.ghosts-counted_place
+ghosts-counted_place a = record { name = a.blank.name; parts = a.blank.parts }

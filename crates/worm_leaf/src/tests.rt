@@ -1,0 +1,159 @@
+//! Worked splits, and each public call once with ample memory.
+ghost use Rattle.std.specs.Prelude.{◌≡◌, ◌<◌};
+ghost use Rattle.worm_leaf.specs.Leaves.{covers};
+
+use crate::{Anchor, Leaf};
+use rdb_base::{Change, Key, Pair, Steps, Value};
+use std::alloc::Global;
+use std::marker::Brand;
+use std::sync::ledger::{Blank, Ledger};
+use std::test::Fail;
+
+/// Whether a leaf covers a key, on a ledger of its own.
+fn covered(leaf: &Leaf, key: &Key) -> bool
+    ensures { result ≡ covers leaf.now key.now }
+{
+    counted::<Brand>(leaf, key, Blank::new(1))
+}
+
+fn counted<L: Ledger>(leaf: &Leaf, key: &Key, blank: Blank) -> bool
+    requires name { blank.name ≡ L.name }
+    requires parts { blank.parts ≡ L.parts }
+    requires some { 0 < blank.parts }
+    ensures { result ≡ covers leaf.now key.now }
+{
+    let mut steps = Steps::<L>::begin(blank);
+    leaf.covers(key, &mut steps)
+}
+
+/// A prefix and two digits.
+fn numbered(alloc: Global, prefix: &[u8], number: u8) -> Result<Key, Fail>
+    requires { number < 100 }
+{
+    let mut bytes = Vec::from_slice(alloc, prefix)?;
+    bytes.extend_from_slice(&[b'0' + number / 10, b'0' + number % 10])?;
+    Ok(Key::try_new(alloc, bytes.as_slice())?)
+}
+
+/// Puts a key with a value of one byte; the answer is the old change.
+fn put(alloc: Global, leaf: &mut Leaf, key: Key, value: u8) -> Result<Option<Change>, Fail> {
+    if !covered(leaf, &key) || leaf.is_full() {
+        return Err("not covered, or full")?;
+    }
+    let change = Change::Put(Value::try_new(alloc, &[value])?);
+    Ok(leaf.put_reserved(Pair { key, change }))
+}
+
+/// Puts the keys of a prefix and 00 to 31, which are new.
+fn put_32(alloc: Global, leaf: &mut Leaf, prefix: &[u8]) -> Result<(), Fail> {
+    for number in 0..32 {
+        let key = numbered(alloc, prefix, number)?;
+        if put(alloc, leaf, key, b'v')?.is_some() {
+            return Err("the key was there")?;
+        }
+    }
+    Ok(())
+}
+
+/// Splits a leaf that is full, where its anchor is to be this one. The right leaf is the answer.
+fn split_at(alloc: Global, leaf: &mut Leaf, want: &[u8]) -> Result<Leaf, Fail> {
+    let mut right = Leaf::make(alloc)?;
+    let mut anchor = Anchor::make(alloc)?;
+    if !leaf.is_full() {
+        return Err("not full")?;
+    }
+    leaf.split_into(&mut right, &mut anchor);
+    if anchor.as_bytes() != want {
+        return Err("another anchor")?;
+    }
+    Ok(right)
+}
+
+/// Whether the first and the last key of a leaf are these.
+fn has_ends(leaf: &Leaf, first: &[u8], last: &[u8]) -> bool {
+    let rows = leaf.rows();
+    match (rows.first(), rows.last()) {
+        (Some(low), Some(high)) => low.key.as_bytes() == first && high.key.as_bytes() == last,
+        _ => false,
+    }
+}
+
+/// The three leaves of 32 keys that begin with `aa`, `ab` and `abc` each.
+fn three_leaves(alloc: Global) -> Result<[Leaf; 3], Fail> {
+    let mut left = Leaf::make(alloc)?;
+    put_32(alloc, &mut left, b"aa")?;
+    put_32(alloc, &mut left, b"ab")?;
+    let mut middle = split_at(alloc, &mut left, b"ab")?;
+    put_32(alloc, &mut middle, b"abc")?;
+    let right = split_at(alloc, &mut middle, b"abc")?;
+    Ok([left, middle, right])
+}
+
+#[test]
+fn full_leaves_split_at_ab_and_abc(rt: HostRuntime) -> Result<(), Fail> {
+    let alloc = rt.alloc();
+    let leaves = three_leaves(alloc)?;
+    assert!(rt; has_ends(&leaves[0], b"aa00", b"aa31"));
+    assert!(rt; has_ends(&leaves[1], b"ab00", b"ab31"));
+    assert!(rt; has_ends(&leaves[2], b"abc00", b"abc31"));
+    for (bytes, want) in [
+        (b"aa".as_slice(), 0),
+        (b"aaz", 0),
+        (b"ab", 1),
+        (b"abb", 1),
+        (b"abc", 2),
+        (b"abd", 2),
+    ] {
+        let key = Key::try_new(alloc, bytes)?;
+        for (place, leaf) in leaves.iter().enumerate() {
+            assert_eq!(rt; covered(leaf, &key), place == want);
+        }
+    }
+    Ok(())
+}
+
+#[test]
+fn k00_to_k63_split_at_k32(rt: HostRuntime) -> Result<(), Fail> {
+    let alloc = rt.alloc();
+    let mut left = Leaf::make(alloc)?;
+    for number in 0..64 {
+        let key = numbered(alloc, b"k", number)?;
+        put(alloc, &mut left, key, b'v')?;
+    }
+    assert!(rt; left.is_first() && left.is_last());
+    let right = split_at(alloc, &mut left, b"k32")?;
+    assert!(rt; has_ends(&left, b"k00", b"k31"));
+    assert!(rt; has_ends(&right, b"k32", b"k63"));
+    assert!(rt; left.is_first() && !left.is_last() && left.meets(&right));
+    assert!(rt; !right.is_first() && right.is_last() && !right.meets(&left));
+    Ok(())
+}
+
+#[test]
+fn a_put_answers_the_old_change(rt: HostRuntime) -> Result<(), Fail> {
+    let alloc = rt.alloc();
+    let mut leaf = Leaf::make(alloc)?;
+    let one = Change::Put(Value::try_new(alloc, b"1")?);
+    let key = numbered(alloc, b"k", 7)?;
+    assert_eq!(rt; leaf.find(&key), None);
+    let copy = key.try_copy(alloc)?;
+    assert_eq!(rt; put(alloc, &mut leaf, copy, b'1')?, None);
+    assert_eq!(rt; leaf.find(&key), Some(&one));
+    assert_eq!(rt; put(alloc, &mut leaf, key, b'2')?, Some(one));
+    Ok(())
+}
+
+#[test]
+fn a_leaf_is_emptied_and_used_again(rt: HostRuntime) -> Result<(), Fail> {
+    let alloc = rt.alloc();
+    let mut leaf = Leaf::make(alloc)?;
+    put_32(alloc, &mut leaf, b"k")?;
+    let mut run = Vec::with_capacity(alloc, leaf.rows().len())?;
+    leaf.move_into(&mut run);
+    assert_eq!(rt; run.len(), 32);
+    assert!(rt; leaf.rows().is_empty());
+    put_32(alloc, &mut leaf, b"k")?;
+    leaf.clear();
+    assert!(rt; leaf.rows().is_empty() && leaf.is_first() && leaf.is_last());
+    Ok(())
+}
