@@ -1,0 +1,15 @@
+pub mod PrefixLemmas
+pub mod CoverLemmas
+pub mod CaseLemmas
+pub mod BitLemmas
+pub mod DeepestLemmas
+pub mod FindLemmas
+pub mod LookupLemmas
+pub mod NodeLemmas
+pub mod LinkLemmas
+pub mod TrieLemmas
+pub mod FrontLemmas
+pub mod PopLemmas
+pub mod EnterLemmas
+pub mod SameLemmas
+pub mod RootLemmas

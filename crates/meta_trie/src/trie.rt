@@ -1,0 +1,112 @@
+ghost use Rattle.std.specs.Prelude.{◌≡◌, ◌≤◌, ◌<◌, ◌+◌, ◌^◌, ◌++◌, ◌∷◌, [], ℕ, Some, length, OnOk, OnErr, IsOk, IfOk};
+ghost use Rattle.rdb_base.specs.Halvings.{IsLogarithmic};
+ghost use Rattle.rdb_base.specs.declared.limits.TheConstants.{KEY_MAX};
+ghost use Rattle.meta_trie.specs.Tries.{cover, IsNew, RoomAnswer};
+
+use crate::adding::enter;
+use crate::finding::leaf_of;
+use crate::leaf_entry::LeafEntry;
+use crate::node::Node;
+use crate::preparing::{prepare, ready_for};
+use crate::ready::Ready;
+use crate::table::Table;
+use crate::trie_error::TrieError;
+use rdb_base::{NoMemory, Steps};
+use std::alloc::Global;
+use std::marker::Model;
+use std::sync::ledger::Ledger;
+
+/// Anchors with their leaves, and a table of the prefixes of the anchors. Contracts see the anchors in the order of adding.
+#[derive(Drop)]
+pub struct MetaTrie {
+    pub(crate) leaves: Vec<LeafEntry>,
+    pub(crate) table: Table,
+    pub(crate) ready: Option<Ready>,
+}
+
+impl Model for MetaTrie {
+    ghost use Rattle.std.specs.Prelude.{◌<◌, vec_len, vec_capacity};
+    ghost use Rattle.meta_trie.specs.Leaves.{all_of, rest_of};
+    ghost use Rattle.meta_trie.specs.Readiness.{IsTrie, MayBeReady, anchor_of};
+    ghost use Rattle.meta_trie.specs.Tries.{TrieState};
+
+    ghost Value = { TrieState };
+
+    ghost view = { λ t. record { added = rest_of (all_of t.leaves.items); ready = anchor_of t.ready } };
+
+    ghost invariant = { λ t. IsTrie t.leaves.items t.table × MayBeReady t.leaves.items (vec_len t.leaves < vec_capacity t.leaves) t.table t.ready };
+}
+
+impl MetaTrie {
+    /// The empty anchor with leaf 0.
+    pub fn make(alloc: Global) -> Result<MetaTrie, NoMemory>
+        ensures { IfOk result (λ trie. trie.added ≡ []) }
+    {
+        let mut leaves = Vec::new(alloc);
+        leaves.push(LeafEntry {
+            anchor: Vec::new(alloc),
+            leaf: 0,
+            previous: 0,
+            next: None,
+        })?;
+        let table = Table::with_root(alloc, Node::begin(0, None))?;
+        Ok(MetaTrie {
+            leaves,
+            table,
+            ready: None,
+        })
+    }
+
+    /// The leaf of the greatest anchor that is not above a key of any length. Each node that is read is one step.
+    pub fn find<L: Ledger>(&self, key: &[u8], steps: &mut Steps<L>) -> u32
+        ensures cover { result ≡ cover self.now.added key.now }
+        ensures counted { steps.old < steps.new }
+        ensures cost { IsLogarithmic (length key.now) (steps.old + 2) steps.new }
+    {
+        leaf_of(self.leaves.as_slice(), &self.table, key, steps)
+    }
+
+    /// Makes all that the next adding of an anchor needs. It is refused where that would be; the anchors stay either way.
+    /// If it is refused, nothing is prepared.
+    pub fn reserve(&mut self, alloc: Global, anchor: &[u8]) -> Result<(), TrieError>
+        requires short { length anchor.now ≤ KEY_MAX }
+        ensures answer { RoomAnswer result self.old.added anchor.now }
+        ensures same { self.new.added ≡ self.old.added }
+        ensures ready { OnOk result (self.new.ready ≡ Some anchor.now) }
+    {
+        self.ready = None;
+        match prepare(alloc, &mut self.leaves, &mut self.table, anchor) {
+            Ok(ready) => {
+                self.ready = Some(ready);
+                Ok(())
+            }
+            Err(error) => Err(error),
+        }
+    }
+
+    /// Adds an anchor. `after` is the leaf of the greatest anchor below it. An anchor that was prepared takes no memory.
+    pub fn add(
+        &mut self,
+        alloc: Global,
+        anchor: &[u8],
+        leaf: u32,
+        _after: u32,
+    ) -> Result<(), TrieError>
+        requires short { length anchor.now ≤ KEY_MAX }
+        requires new { IsNew self.old.added anchor.now }
+        requires after { _after ≡ cover self.old.added anchor.now }
+        ensures answer { RoomAnswer result self.old.added anchor.now }
+        ensures added { OnOk result (self.new.added ≡ self.old.added ++ record { anchor = anchor.now; leaf = leaf } ∷ []) }
+        ensures refused { OnErr result (self.new.added ≡ self.old.added) }
+        ensures ready { self.old.ready ≡ Some anchor.now → IsOk result }
+    {
+        let kept = self.ready.take();
+        match ready_for(alloc, &mut self.leaves, &mut self.table, kept, anchor) {
+            Ok(ready) => {
+                enter(&mut self.leaves, &mut self.table, ready, leaf);
+                Ok(())
+            }
+            Err(error) => Err(error),
+        }
+    }
+}
