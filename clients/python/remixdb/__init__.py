@@ -7,7 +7,7 @@
         print(store.ask(Get(b"a")).value)
 """
 
-from .connection import Connection, Program, SessionEnded, start_program
+from .connection import Connection, Program, ProgramFailed, SessionEnded, start_program
 from .messages import (
     Absent,
     BadMessage,
@@ -36,6 +36,7 @@ __all__ = [
     "NotAReply",
     "OutOfMemory",
     "Program",
+    "ProgramFailed",
     "Put",
     "Quit",
     "Refusal",

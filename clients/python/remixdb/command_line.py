@@ -9,7 +9,14 @@ import signal
 import sys
 from typing import IO, Iterator, List, Optional
 
-from .connection import PROGRAM_VARIABLE, Connection, SessionEnded, program_path, start_program
+from .connection import (
+    PROGRAM_VARIABLE,
+    Connection,
+    ProgramFailed,
+    SessionEnded,
+    program_path,
+    start_program,
+)
 from .messages import REQUESTS, Message, NotAReply, Quit, Refusal, Request
 from .text import ESCAPES_TOLD, BadLine, form_of, hex_of, line_of, read_words, request_of
 
@@ -134,25 +141,40 @@ class Session:
             print(mark, hex_of(message), file=sys.stderr, flush=True)
 
 
+class Help(argparse.Action):
+    """Prints the help and ends. The one of argparse ends well although the help had no room."""
+
+    def __call__(self, parser: argparse.ArgumentParser, *_: object) -> None:  # type: ignore
+        need(sys.stdout)
+        say(parser.format_help().rstrip())
+        parser.exit()
+
+
 def read_arguments(arguments: Optional[List[str]]) -> argparse.Namespace:
     parser = argparse.ArgumentParser(
         prog=NAME,
         description="A client of RemixDB.",
         epilog=EXPLANATION.format(requests=told_requests()),
         formatter_class=argparse.RawDescriptionHelpFormatter,
+        add_help=False,
     )
+    parser.add_argument("-h", "--help", action=Help, nargs=0, help="show this help and end")
     parser.add_argument(
         "--hex", action="store_true", help="show each message in hexadecimal on standard error"
     )
     return parser.parse_args(arguments)
 
 
+def need(stream: Optional[IO[str]]) -> None:
+    """Raises where a stream was closed by whoever started this."""
+    if stream is None:
+        raise OSError(errno.EBADF, os.strerror(errno.EBADF))
+
+
 def prepare_streams() -> bool:
     """Makes text stand for bytes in UTF-8 in any locale, and tells whether there is a prompt."""
-    if sys.stderr is None:  # It was closed by whoever started this, as those below.
-        sys.stderr = open(os.devnull, "w")
-    if sys.stdin is None or sys.stdout is None:
-        raise OSError(errno.EBADF, os.strerror(errno.EBADF))
+    need(sys.stdin)
+    need(sys.stdout)
     for stream in (sys.stdin, sys.stdout, sys.stderr):
         stream.reconfigure(encoding="utf-8", errors="surrogateescape")  # type: ignore
     is_typed = sys.stdin.isatty() and sys.stdout.isatty()
@@ -179,28 +201,27 @@ def run(shows_hex: bool) -> int:
     except OSError as fault:
         complain(f"cannot start {program_path()}: {fault.strerror}")
         return REFUSED
-    with store:
-        try:
-            status = Session(store, shows_hex, is_typed).run()
-            ended = store.close()
-        except (KeyboardInterrupt, NotAReply):
-            store.interrupt()  # Else the wait for its end could be for ever.
-            raise
-    if ended:
-        complain(f"the program ended with status {ended}")
+    status = ALL_ANSWERED
+    try:
+        with store:
+            try:
+                status = Session(store, shows_hex, is_typed).run()
+                store.close()
+            except (KeyboardInterrupt, NotAReply):
+                store.interrupt()  # Else the wait for its end could be for ever.
+                raise
+    except ProgramFailed as failed:
+        complain(str(failed))
         return status or REFUSED
     return status
 
 
 def main(arguments: Optional[List[str]] = None) -> int:
     """Runs the command line, and answers its exit status."""
+    if sys.stderr is None:  # It was closed by whoever started this.
+        sys.stderr = open(os.devnull, "w")
     try:
-        try:
-            shows_hex = read_arguments(arguments).hex
-        finally:
-            if sys.stdout is not None:
-                sys.stdout.flush()  # A help that has no room is told below.
-        return run(shows_hex)
+        return run(read_arguments(arguments).hex)
     except (SessionEnded, NotAReply) as fault:
         complain(str(fault))
         return REFUSED

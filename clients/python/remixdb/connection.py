@@ -6,7 +6,7 @@ import os
 import signal
 import subprocess
 from pathlib import Path
-from typing import IO, Optional
+from typing import IO, Optional, Type
 
 from .messages import (
     LENGTH_BYTES,
@@ -28,6 +28,14 @@ class SessionEnded(Exception):
     def __init__(self, status: Optional[int]) -> None:
         told = "" if status is None else f": the program ended with status {status}"
         super().__init__(f"the session ended before a reply{told}")
+        self.status = status
+
+
+class ProgramFailed(Exception):
+    """The program that was started ended with a status but 0, when its session was over."""
+
+    def __init__(self, status: int) -> None:
+        super().__init__(f"the program ended with status {status}")
         self.status = status
 
 
@@ -124,6 +132,12 @@ class Program(Connection):
         )
         assert self._child.stdin is not None and self._child.stdout is not None
         super().__init__(self._child.stdout, self._child.stdin)
+
+    def __exit__(self, kind: Optional[Type[BaseException]], *_: object) -> None:
+        """Ends the session. A status but 0 is raised, unless an exception is on its way already."""
+        status = self.close()
+        if status and kind is None:
+            raise ProgramFailed(status)
 
     def interrupt(self) -> None:
         """Interrupts the program, and what it started in its turn, as a terminal would."""

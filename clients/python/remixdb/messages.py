@@ -1,6 +1,6 @@
 """The messages of a session, and the bytes that each is written as.
 
-A message is a body behind its length. The first byte of a body says which message it is, and
+A message is the length of a body, and the body. The first byte of a body says which message it is, and
 fields follow. Each class below says its first byte, its word and its fields in their order, and
 nothing else in this package repeats them. So a new request is a class here and a place in REQUESTS,
 and a new reply a class and a place in REPLIES.
@@ -54,7 +54,7 @@ class Number:
 
 @dataclass(frozen=True)
 class Bytes:
-    """A field that is bytes behind their length. Its bounds are those of the store."""
+    """A field that is bytes after their length. Its bounds are those of the store."""
 
     noun: str
     width: int

@@ -27,7 +27,7 @@ def to_bytes(text: str) -> bytes:
 
 
 def read_escape(line: str, place: int) -> Tuple[bytes, int]:
-    """What the escape whose backslash is at the place stands for, and the place behind it."""
+    """What the escape whose backslash is at the place stands for, and the place after it."""
     letter = line[place + 1 : place + 2]
     if letter in PLAIN_ESCAPES:
         return to_bytes(PLAIN_ESCAPES[letter]), place + 2
@@ -38,7 +38,7 @@ def read_escape(line: str, place: int) -> Tuple[bytes, int]:
 
 
 def read_word(line: str, place: int) -> Tuple[bytes, int]:
-    """The word that begins at the place, and the place behind it."""
+    """The word that begins at the place, and the place after it."""
     is_quoted = line[place] == '"'
     place += is_quoted
     word = bytearray()
@@ -49,7 +49,7 @@ def read_word(line: str, place: int) -> Tuple[bytes, int]:
             word += piece
         elif is_quoted and letter == '"':
             if line[place + 1 : place + 2] not in ("", *SPACES):
-                raise BadLine("a space is wanted behind a closing quote")
+                raise BadLine("a space is wanted after a closing quote")
             return bytes(word), place + 1
         elif not is_quoted and letter in SPACES:
             return bytes(word), place
@@ -95,7 +95,7 @@ def request_of(words: List[bytes]) -> Request:
     if len(words) - 1 != len(request.kinds()):
         plural = "" if len(words) == 2 else "s"
         raise BadLine(
-            f"{form_of(request)} is wanted, and {name} has {len(words) - 1} word{plural} behind it"
+            f"{form_of(request)} is wanted, and {name} has {len(words) - 1} word{plural} after it"
         )
     try:
         return request(*words[1:])

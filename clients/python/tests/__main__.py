@@ -26,6 +26,16 @@ class Result(unittest.TextTestResult):
         super().stopTest(test)
 
 
+def restore_signals() -> None:
+    """Puts the default handlers back.
+
+    A job in the background of a script begins with interrupts ignored, and so would what it starts.
+    """
+    signal.signal(signal.SIGINT, signal.default_int_handler)
+    for number in (signal.SIGQUIT, signal.SIGHUP, signal.SIGTERM):
+        signal.signal(number, signal.SIG_DFL)
+
+
 def give_up(*_: object) -> None:
     raise TimeoutError(f"the test took more than {TEST_SECONDS} seconds")
 
@@ -41,6 +51,7 @@ def is_built() -> bool:
 
 
 def main() -> int:
+    restore_signals()
     if not is_built():
         print(f"the tests need a program that runs: {program_path()}", file=sys.stderr)
         print("0 passed, 1 failed")

@@ -2,10 +2,12 @@
 
 from __future__ import annotations
 
+import os
 import subprocess
+from pathlib import Path
 from typing import IO, NamedTuple, Union
 
-from remixdb.connection import program_path
+from remixdb.connection import PROGRAM_VARIABLE, program_path
 
 SECONDS = 30
 """How long a run may take. A program that waits for what never comes fails its test by this."""
@@ -15,6 +17,7 @@ SCRIPT = ("script", "mem")
 BAD_MESSAGE_NOTE = b"remixdb: session ended by a bad message\n"
 WORDS_NOTE = b"remixdb: words are not in the stated form\n"
 STREAM_NOTE = b"remixdb: stream failed\n"
+MEMORY_NOTE = b"remixdb: out of memory\n"
 
 PUT_A = bytes.fromhex("00000009 01 0001 61 00000001 31")
 GET_A = bytes.fromhex("00000004 03 0001 61")
@@ -22,6 +25,12 @@ QUIT = bytes.fromhex("00000001 09")
 DONE_0 = bytes.fromhex("00000009 81 0000000000000000")
 VALUE_1_OF_A = bytes.fromhex("0000000e 82 0000000000000001 00000001 31")
 BYE = bytes.fromhex("00000001 89")
+
+
+def built_path() -> str:
+    """The program itself, without the script that builds it."""
+    named = os.environ.get(PROGRAM_VARIABLE)
+    return named or str(Path(program_path()).resolve().parent / "out" / "remixdb")
 
 
 class Ended(NamedTuple):

@@ -40,7 +40,7 @@ class Piped(unittest.TestCase):
         replies = 'done 0\nvalue 1 "1"\ndone 1\nvalue 2 "a\\x00\\n"\nabsent 2\nbye\n'
         self.assertEqual(run_client(lines), (0, replies, ""))
 
-    def test_nothing_behind_a_quit_is_read(self) -> None:
+    def test_nothing_after_a_quit_is_read(self) -> None:
         self.assertEqual(run_client("quit\nfrob\n"), (0, "bye\n", ""))
 
     def test_the_last_line_needs_no_end(self) -> None:
@@ -58,7 +58,7 @@ class Piped(unittest.TestCase):
     def test_a_bad_line_ends_a_piped_session(self) -> None:
         status, replies, notes = run_client("put a 1\nput a\nget a\n")
         self.assertEqual((status, replies), (2, "done 0\n"))
-        wanted = "line 2: put KEY VALUE is wanted, and put has 1 word behind it"
+        wanted = "line 2: put KEY VALUE is wanted, and put has 1 word after it"
         self.assertEqual(notes, f"remixdb-client: {wanted}\n")
 
     def test_frames_are_shown_apart_from_replies(self) -> None:
@@ -159,16 +159,19 @@ class Trouble(unittest.TestCase):
 
     @unittest.skipUnless(os.path.exists("/dev/full"), "no device here is always full")
     def test_output_that_has_no_room_is_told(self) -> None:
-        with open("/dev/full", "wb") as full:
-            run = subprocess.run(
-                [sys.executable, CLIENT],
-                input=b"get a\n",
-                stdout=full,
-                stderr=subprocess.PIPE,
-                timeout=SECONDS,
-            )
-        self.assertEqual(run.returncode, 1)
-        self.assertEqual(run.stderr, b"remixdb-client: cannot go on: No space left on device\n")
+        for options in ([], ["--help"]):
+            for unbuffered in ("", "1"):
+                with self.subTest(options=options), open("/dev/full", "wb") as full:
+                    run = subprocess.run(
+                        [sys.executable, CLIENT, *options],
+                        input=b"get a\n",
+                        stdout=full,
+                        stderr=subprocess.PIPE,
+                        env={**os.environ, "PYTHONUNBUFFERED": unbuffered},
+                        timeout=SECONDS,
+                    )
+                told = b"remixdb-client: cannot go on: No space left on device\n"
+                self.assertEqual((run.returncode, run.stderr), (1, told))
 
 
 class Terminal:
@@ -186,7 +189,7 @@ class Terminal:
         os.write(self._terminal, text.encode())
 
     def comes(self, text: str, seconds: float) -> bool:
-        """Reads until the text has come, behind what has come before, and tells whether it did."""
+        """Reads until the text has come, after what has come before, and tells whether it did."""
         end = time.monotonic() + seconds
         while text not in self.seen[self._place :]:
             left = max(0, end - time.monotonic())

@@ -15,6 +15,8 @@ from remixdb import (
     Get,
     NotAReply,
     OutOfMemory,
+    Program,
+    ProgramFailed,
     Put,
     Quit,
     SessionEnded,
@@ -61,7 +63,7 @@ class Sessions(unittest.TestCase):
         self.assertIn(store.close(), (0, 5))
 
     def test_a_bad_message_is_raised_and_ends_the_session(self) -> None:
-        with start_program() as store:
+        with self.assertRaises(ProgramFailed) as failed, start_program() as store:
             store.ask(Put(b"a", b"1"))
             store.send_bytes(bytes.fromhex("00000001 10"))
             with self.assertRaises(BadMessage) as caught:
@@ -70,14 +72,32 @@ class Sessions(unittest.TestCase):
             with self.assertRaises(SessionEnded) as ended:
                 store.receive()
             self.assertEqual(ended.exception.status, 1)
+        self.assertEqual(failed.exception.status, 1)
 
     def test_a_refusal_is_not_lost_where_more_was_sent(self) -> None:
-        with start_program() as store:
+        with self.assertRaises(ProgramFailed), start_program() as store:
             store.send_bytes(bytes.fromhex("00000001 10"))
             self.assertEqual(store._child.wait(SECONDS), 1)
             store.send(Get(b"a"))
             self.assertRaises(BadMessage, store.receive)
             self.assertRaises(SessionEnded, store.receive)
+
+    def test_a_status_of_the_closing_write_is_raised(self) -> None:
+        # Each reply came, and the program failed after that.
+        replies = r"\000\000\000\011\201\000\000\000\000\000\000\000\000"
+        with self.assertRaises(ProgramFailed) as failed:
+            with Program("sh", "-c", f"printf '{replies}'; cat >/dev/null; exit 4") as store:
+                self.assertEqual(store.ask(Put(b"a", b"1")), Done(0))
+        self.assertEqual(failed.exception.status, 4)
+
+    def test_an_exception_of_the_block_goes_before_a_status(self) -> None:
+        with self.assertRaises(KeyError):
+            with Program("sh", "-c", "cat >/dev/null; exit 4"):
+                raise KeyError
+
+    def test_a_close_by_hand_answers_the_status(self) -> None:
+        store = Program("sh", "-c", "cat >/dev/null; exit 4")
+        self.assertEqual(store.close(), 4)
 
     def test_a_session_that_has_ended_is_told(self) -> None:
         with start_program() as store:

@@ -5,6 +5,8 @@ from __future__ import annotations
 import array
 import fcntl
 import os
+import resource
+import signal
 import subprocess
 import tempfile
 import termios
@@ -18,6 +20,7 @@ from .support import (
     BYE,
     DONE_0,
     GET_A,
+    MEMORY_NOTE,
     PUT_A,
     QUIT,
     SCRIPT,
@@ -26,6 +29,7 @@ from .support import (
     VALUE_1_OF_A,
     WORDS_NOTE,
     Ended,
+    built_path,
     program_path,
     run_program,
     run_script,
@@ -128,7 +132,7 @@ class BadMessages(unittest.TestCase):
     def test_a_value_that_is_too_long(self) -> None:
         self.assert_refused("00000008 01 0001 61 00010000", 5)
 
-    def test_bytes_behind_the_last_field(self) -> None:
+    def test_bytes_after_the_last_field(self) -> None:
         self.assert_refused("00000002 09 00", 7)
         self.assert_refused("00000005 03 0001 61 00", 7)
 
@@ -198,6 +202,37 @@ class Streams(unittest.TestCase):
         finally:
             watch.cancel()
 
+    def test_replies_of_many_times_the_buffer_come_whole(self) -> None:
+        sent, wanted = self.long_replies(count=40)
+        self.assertEqual(run_script(sent), Ended(0, wanted, b""))
+
+    def test_a_program_that_is_stopped_in_a_write_goes_on(self) -> None:
+        # A stop cuts the write of a long reply short wherever the pipe is full.
+        sent, wanted = self.long_replies(count=20)
+        child = start_script()
+        assert child.stdin is not None and child.stdout is not None
+        feeder = threading.Thread(target=child.stdin.write, args=(sent,))
+        feeder.start()
+        came = b""
+        while len(came) < len(wanted):
+            time.sleep(0.01)
+            child.send_signal(signal.SIGSTOP)
+            child.send_signal(signal.SIGCONT)
+            piece = child.stdout.read(50_000)
+            self.assertTrue(piece, "the replies end early")
+            came += piece
+        feeder.join(SECONDS)
+        self.assertEqual(came, wanted)
+        self.assertEqual(child.communicate(timeout=SECONDS), (b"", b""))
+        self.assertEqual(child.returncode, 0)
+
+    def long_replies(self, count: int) -> "tuple[bytes, bytes]":
+        """A put of the longest value and so many gets of it, and all their replies."""
+        value = b"v" * 65_535
+        put = bytes.fromhex("00010007 01 0001 61 0000ffff") + value
+        answer = bytes.fromhex("0001000c 82 0000000000000001 0000ffff") + value
+        return put + GET_A * count, DONE_0 + answer * count
+
     def test_a_reader_that_is_gone_is_a_failed_stream(self) -> None:
         reader, writer = os.pipe()
         os.close(reader)
@@ -241,8 +276,29 @@ class Streams(unittest.TestCase):
         self.assertEqual(Ended(run.returncode, run.stdout, run.stderr), Ended(5, b"", STREAM_NOTE))
 
 
+class Memory(unittest.TestCase):
+    """Less and less memory, in steps of 50 KiB."""
+
+    NOT_LOADED = 127
+
+    def run_within(self, limit: int) -> Ended:
+        run = subprocess.run(
+            [built_path(), *SCRIPT],
+            preexec_fn=lambda: resource.setrlimit(resource.RLIMIT_AS, (limit, limit)),
+            input=b"",
+            capture_output=True,
+            timeout=SECONDS,
+        )
+        return Ended(run.returncode, run.stdout, run.stderr)
+
+    def test_a_session_runs_or_memory_is_told(self) -> None:
+        ends = {self.run_within(limit * 1_024) for limit in range(1_000, 6_000, 50)}
+        ends = {ended for ended in ends if ended.status != self.NOT_LOADED}
+        self.assertEqual(ends, {Ended(0, b"", b""), Ended(6, b"", MEMORY_NOTE)})
+
+
 class Words(unittest.TestCase):
-    """The words behind the program's name."""
+    """The words after the program's name."""
 
     def test_other_words_are_refused(self) -> None:
         for words in (
@@ -261,13 +317,28 @@ class Words(unittest.TestCase):
     def test_an_empty_word_is_a_word(self) -> None:
         self.assertEqual(run_program(PUT_A, "script", "mem", ""), Ended(2, b"", WORDS_NOTE))
 
-    def test_a_word_that_is_no_text_is_refused_without_a_note(self) -> None:
+    def test_a_word_that_is_no_text_is_refused(self) -> None:
         # The system hands words over as bytes. These are no UTF-8: a lone byte, an overlong
         # letter, half of a pair.
         for word in (b"\xff", b"mem\xff", b"\xc1\xad", b"\xed\xa0\x80"):
             for words in (("script", word), (word, "mem"), ("script", "mem", word)):
                 with self.subTest(words=words):
-                    self.assertEqual(run_program(PUT_A, *words), Ended(2, b"", b""))
+                    self.assertEqual(run_program(PUT_A, *words), Ended(2, b"", WORDS_NOTE))
+
+    def test_the_name_of_the_program_is_no_word(self) -> None:
+        for name, words, status in (("script", ["mem"], 2), ("mem", ["script", "mem"], 0)):
+            with self.subTest(name=name):
+                run = subprocess.run(
+                    [name, *words],
+                    executable=built_path(),
+                    input=b"",
+                    capture_output=True,
+                    timeout=SECONDS,
+                )
+                notes = WORDS_NOTE if status else b""
+                self.assertEqual(
+                    Ended(run.returncode, run.stdout, run.stderr), Ended(status, b"", notes)
+                )
 
     def test_the_program_runs_from_any_folder_and_through_a_link(self) -> None:
         with tempfile.TemporaryDirectory() as folder:
