@@ -1,0 +1,19 @@
+"""Writes a load: the requests as one file, and the replies that they must get as another.
+
+The bench runs this in a process of its own, since a program that it starts counts the memory of
+the process that started it as its own peak.
+"""
+
+import sys
+
+from . import all_loads
+from .writer import Writer
+
+
+def main(name: str, count: str, requests: str, replies: str) -> None:
+    with open(requests, "wb") as asked, open(replies, "wb") as wanted:
+        all_loads()[name].write(Writer(asked, wanted), int(count))
+
+
+if __name__ == "__main__":
+    main(*sys.argv[1:])

@@ -1,0 +1,1 @@
+"""How the bench runs programs, counts what they take, and tells it."""

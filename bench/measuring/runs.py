@@ -1,0 +1,112 @@
+"""Runs of a program on a load, and what they took."""
+
+from __future__ import annotations
+
+import filecmp
+import os
+import resource
+import subprocess
+import time
+from typing import Callable, Dict, List, NamedTuple, Optional
+
+from loads import Load
+
+from .programs import Failure, Files, Program
+
+
+class Cost(NamedTuple):
+    """What a run took. Memory, in KiB, is None where the bench itself was larger than the program."""
+
+    seconds: float
+    processor: float
+    memory: Optional[int]
+
+
+Runner = Callable[[Program, Files], Cost]
+Costs = Dict[str, List[Cost]]
+"""The costs of each program's runs, by its name."""
+
+
+def memory_of(usage: resource.struct_rusage) -> Optional[int]:
+    """A child's peak of memory in KiB. It begins with its parent's, which may hide its own."""
+    floor = resource.getrusage(resource.RUSAGE_SELF).ru_maxrss
+    return usage.ru_maxrss if usage.ru_maxrss > floor else None
+
+
+def wait(child: "subprocess.Popen[bytes]", program: Program) -> resource.struct_rusage:
+    """Waits for a program that has to end well."""
+    _, status, usage = os.wait4(child.pid, 0)
+    child.returncode = os.WEXITSTATUS(status) if os.WIFEXITED(status) else -os.WTERMSIG(status)
+    if child.returncode:
+        raise Failure(f"{program.name} ended with status {child.returncode}")
+    return usage
+
+
+def run_on_files(program: Program, files: Files) -> Cost:
+    """Runs a program from a file to a file, and compares its replies with the wanted ones."""
+    with open(files.requests, "rb") as requests, open(files.replies, "wb") as replies:
+        start = time.perf_counter()
+        child = subprocess.Popen(program.command, stdin=requests, stdout=replies)
+        usage = wait(child, program)
+        seconds = time.perf_counter() - start
+    if not filecmp.cmp(files.replies, files.wanted, shallow=False):
+        raise Failure(f"{program.name} gave other replies than are wanted")
+    return Cost(seconds, usage.ru_utime + usage.ru_stime, memory_of(usage))
+
+
+def cut_frames(data: bytes) -> List[bytes]:
+    """The messages of a file, each with its length in front."""
+    frames = []
+    place = 0
+    while place < len(data):
+        end = place + 4 + int.from_bytes(data[place : place + 4], "big")
+        frames.append(data[place:end])
+        place = end
+    return frames
+
+
+def ask_in_turn(requests: int, replies: int, frames: List[bytes], wanted: List[bytes]) -> bool:
+    """Sends each request once the reply before it has come. Tells whether all are as wanted."""
+    for frame, want in zip(frames, wanted):
+        os.write(requests, frame)
+        came = os.read(replies, len(want))
+        while len(came) < len(want):
+            piece = os.read(replies, len(want) - len(came))
+            if not piece:
+                return False
+            came += piece
+        if came != want:
+            return False
+    return True
+
+
+def run_one_at_a_time(program: Program, files: Files) -> Cost:
+    """Runs a program over pipes, one request at a time, and takes the time up to the last reply."""
+    frames = cut_frames(files.requests.read_bytes())
+    wanted = cut_frames(files.wanted.read_bytes())
+    with subprocess.Popen(
+        program.command, bufsize=0, stdin=subprocess.PIPE, stdout=subprocess.PIPE
+    ) as child:
+        assert child.stdin is not None and child.stdout is not None
+        start = time.perf_counter()
+        is_right = ask_in_turn(child.stdin.fileno(), child.stdout.fileno(), frames, wanted)
+        seconds = time.perf_counter() - start
+        child.stdin.close()
+        usage = wait(child, program)
+    if not is_right:
+        raise Failure(f"{program.name} gave other replies than are wanted")
+    return Cost(seconds, usage.ru_utime + usage.ru_stime, memory_of(usage))
+
+
+def runner_of(load: Load) -> Runner:
+    return run_one_at_a_time if load.is_one_at_a_time else run_on_files
+
+
+def run_load(load: Load, programs: List[Program], files: Files, rounds: int) -> Costs:
+    """Runs the programs in turn, so many times, and in each second round in reverse."""
+    run = runner_of(load)
+    costs: Costs = {program.name: [] for program in programs}
+    for number in range(rounds):
+        for program in programs if number % 2 == 0 else reversed(programs):
+            costs[program.name].append(run(program, files))
+    return costs
