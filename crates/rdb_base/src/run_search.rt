@@ -12,11 +12,13 @@ use std::sync::ledger::Ledger;
 
 /// The first place whose key is not below this one, or how many pairs there are.
 ///
-/// Each key that is read is a step. They are at most the least number whose power of two is above the number of pairs.
+/// Each key that is read is a step. They are at most the least number whose power of two is above the number of pairs,
+/// and at least one where there is a pair.
 pub fn place_of<L: Ledger>(run: &[Pair], key: &[u8], steps: &mut Steps<L>) -> usize
     requires rises { IsRun run.now }
     ensures place { IsPlaceOf run.now key.now result }
     ensures cost { IsLogarithmic (length run.now) steps.old steps.new }
+    ensures some { 0 < length run.now → steps.old < steps.new }
 {
     let mut low = 0;
     let mut high = run.len();
@@ -43,6 +45,7 @@ pub fn find_in<'a, L: Ledger>(
     requires rises { IsRun run.now }
     ensures change { LendsChange result (change_at run.now key.now) }
     ensures cost { (n : ℕ) → length run.now < 2 ^ n → steps.new ≤ steps.old + n + 1 }
+    ensures some { 0 < length run.now → steps.old < steps.new }
 {
     let place = place_of(run, key, steps);
     if place == run.len() {

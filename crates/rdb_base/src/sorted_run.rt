@@ -75,6 +75,7 @@ impl SortedRun {
     pub fn find<L: Ledger>(&self, key: &[u8], steps: &mut Steps<L>) -> Option<&Change>
         ensures change { LendsChange result (change_at self.now key.now) }
         ensures cost { (n : ℕ) → length self.now < 2 ^ n → steps.new ≤ steps.old + n + 1 }
+        ensures some { 0 < length self.now → steps.old < steps.new }
     {
         find_in(self.as_slice(), key, steps)
     }

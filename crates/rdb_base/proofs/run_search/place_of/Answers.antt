@@ -16,6 +16,8 @@ halves-preserved-then-is_lt g c =
     record {
       places = halved-true (is_below_at run key) (length run) low high (low + (high - low) / 2) (below_at-falls run key c.requires.rises) c.halves.invariant.places (omega (arith, more)) (omega arith) read;
       cost = bound-half (length run) c.args.steps.now c.halves.steps c.tick.new.self (high - low) (high - (low + (high - low) / 2 + 1)) (omega (arith, c.tick.ensures)) (omega arith) (omega (arith, more)) c.halves.invariant.cost;
+      later = omega (arith, c.tick.ensures, c.halves.invariant.later);
+      some = λ fewer. omega (arith, c.tick.ensures, c.halves.invariant.later);
     }
 
 pub halves-preserved : goal.halves-preserved
@@ -30,4 +32,6 @@ halves-preserved g c =
     record {
       places = halved-false (is_below_at run key) (length run) low high (low + (high - low) / 2) (below_at-falls run key c.requires.rises) c.halves.invariant.places (omega (arith, more)) (omega arith) read;
       cost = bound-half (length run) c.args.steps.now c.halves.steps c.tick.new.self (high - low) (low + (high - low) / 2 - low) (omega (arith, c.tick.ensures)) (omega arith) (omega (arith, more)) c.halves.invariant.cost;
+      later = omega (arith, c.tick.ensures, c.halves.invariant.later);
+      some = λ fewer. omega (arith, c.tick.ensures, c.halves.invariant.later);
     }
