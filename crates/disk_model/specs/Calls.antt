@@ -6,11 +6,11 @@ use Rattle.disk_model.specs.Causes.{CauseOf}
 use Rattle.disk_model.specs.Crashes.{Elapses}
 use Rattle.disk_model.specs.declared.device_error.DeviceError.{DeviceError}
 
--- this holds of a device that tells what it speaks of
+-- this holds of a device where contracts see what it speaks of
 abbrev pub IfTold : Bool → Type 0 → Type 0
 IfTold told P = IsTrue told → P
 
--- One call took a device from old to new: it is the same device, tells as much as before, counts at most this call,
+-- One call took a device from old to new: it is the same device, as much of it is seen, it counts at most this call,
 -- time goes on, and a fault is one unit of its own book.
 pub record IsCall {S T C : Type 0} (book_of : S → BookName) (count_of calls_of : S → ℕ) (tells_of images_of : S → Bool) (moment_of : S → ℕ)
     (since : S → ℕ → C → Type 0) (leaves : S → C → Type 0) (old new : S) (result : Result T DeviceError) : Type 0 where

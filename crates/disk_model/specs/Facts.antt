@@ -6,7 +6,7 @@ use Rattle.disk_model.specs.declared.limits.TheConstants.{LOG_STRIPS, MANIFEST_A
 use Rattle.disk_model.specs.declared.shelf.Shelf as shelves
 use Rattle.disk_model.specs.declared.strip.Strip as strips
 
--- its book, and whether it tells its content and its crash images
+-- its book, and whether contracts see its content and its crash images
 pub record DeviceFacts : Type 0 where
   pub book : BookName
   pub tells : Bool

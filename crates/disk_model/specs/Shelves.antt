@@ -1,6 +1,6 @@
--- What the calls of a shelf do to its files. A shelf's files are told as the bytes at each number.
+-- What the calls of a shelf do to its files. Contracts see the bytes at each number, where there is a file.
 use Rattle.std.specs.Prelude.{◌≡◌, ◌≢◌, ◌⊎◌, ◌↔◌, ℕ, ◌<◌, List, [], ◌∷◌, Contains, Option, Some, None, IsSome}
-use Rattle.std.specs.List.{All}
+use Rattle.std.specs.List.{AllByRecursion}
 
 -- each file but that with this number is as it was
 abbrev pub KeepsOthers : ℕ → (ℕ → Option (List ℕ)) → (ℕ → Option (List ℕ)) → Type 0
@@ -28,7 +28,7 @@ pub record RemovesOrNot (number : ℕ) (old new : ℕ → Option (List ℕ)) : T
 -- these rise
 abbrev pub AreRising : List ℕ → Type 0
 AreRising [] = Unit {0}
-AreRising (number ∷ numbers) = All (λ n. number < n) numbers × AreRising numbers
+AreRising (number ∷ numbers) = AllByRecursion (λ n. number < n) numbers × AreRising numbers
 
 -- these are the numbers of the files, rising
 pub record AreNumbersOf (numbers : List ℕ) (files : ℕ → Option (List ℕ)) : Type 0 where

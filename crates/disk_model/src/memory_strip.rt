@@ -9,7 +9,7 @@ use crate::{DeviceError, FaultBook, Strip};
 use std::alloc::{AllocError, Global};
 use std::marker::Model;
 
-/// A strip in memory. It tells its content and its crash images: it keeps the bytes of its last sync,
+/// A strip in memory. Contracts see its bytes and its crash images: it keeps the bytes of its last sync,
 /// and which ranges changed since then.
 ///
 /// The calls with the numbers of a list fail, and no other: such a call changes nothing of the
@@ -115,7 +115,7 @@ impl MemoryStrip {
         self
     }
 
-    /// Counts a call, and tells whether it is to fail.
+    /// Counts a call, and answers whether it is to fail.
     fn begin(&mut self) -> bool
         ensures listed { result ≡ is_listed self.old }
         ensures state { self.new ≡ begun self.old }
@@ -128,12 +128,12 @@ impl MemoryStrip {
 }
 
 impl Strip for MemoryStrip {
-    ghost use Rattle.std.specs.Prelude.{◌+◌, ◌<◌, ◌^◌, length, take, true, OnOk, OnErr};
+    ghost use Rattle.std.specs.Prelude.{◌+◌, ◌<◌, ◌^◌, length, take, true, false, IsOk, OnOk, OnErr};
     ghost use Rattle.disk_model.specs.Crashes.{Follows, Narrows, Only};
     ghost use Rattle.disk_model.specs.Strips.{Holds, Fills, Torn, Cut};
     ghost use Rattle.disk_model.specs.FileState.{MayLeave, changed, file_written, file_cut, file_of};
     ghost use Rattle.disk_model.specs.Pasts.{LeftSince};
-    ghost use Rattle.disk_model.specs.MemoryState.{FailsAsListed, Goes, IsMemoryCall};
+    ghost use Rattle.disk_model.specs.MemoryState.{is_listed, FailsAsListed, EndsAsListed, Goes, IsMemoryCall};
     ghost use Rattle.std.proofs.Common.{inl, refl};
     ghost use Rattle.disk_model.specs.PastLaws.{since-earlier, since-now};
     ghost use Rattle.disk_model.specs.declared.change.Change.TheVariants.{Written, CutTo};
@@ -165,7 +165,8 @@ impl Strip for MemoryStrip {
     ghost only_now = { λ s c left. since-now MayLeave s.past s.file c left };
 
     fn len(&mut self, alloc: Global) -> Result<u64, DeviceError>
-        ensures listed { FailsAsListed self.old result }
+        ensures listed { EndsAsListed self.old result }
+        ensures ok { is_listed self.old ≡ false → IsOk result }
         ensures state { Goes self.old self.new self.old.file self.old.file result }
         ensures length { IfOk result (λ len. len ≡ length self.old.file.bytes) }
         ensures short { IfOk result (λ len. len < 2 ^ 63) }
@@ -180,7 +181,8 @@ impl Strip for MemoryStrip {
     }
 
     fn read(&mut self, alloc: Global, at: u64, into: &mut [u8]) -> Result<usize, DeviceError>
-        ensures listed { FailsAsListed self.old result }
+        ensures listed { EndsAsListed self.old result }
+        ensures ok { is_listed self.old ≡ false → IsOk result }
         ensures state { Goes self.old self.new self.old.file self.old.file result }
         ensures filled { IfOk result (λ count. Fills self.old.file.bytes at count into.old into.new) }
         ensures fits { IfOk result (λ count. count ≤ length into.old) }
@@ -232,7 +234,8 @@ impl Strip for MemoryStrip {
     }
 
     fn sync(&mut self, alloc: Global) -> Result<(), DeviceError>
-        ensures listed { FailsAsListed self.old result }
+        ensures listed { EndsAsListed self.old result }
+        ensures ok { is_listed self.old ≡ false → IsOk result }
         ensures state { Goes self.old self.new (file_of self.old.file.bytes) self.old.file result }
         ensures durable { OnOk result (Only self.old.file.bytes (MayLeave self.new.file)) }
         ensures content { self.new.file.bytes ≡ self.old.file.bytes }

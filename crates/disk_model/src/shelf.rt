@@ -13,7 +13,7 @@ use std::alloc::Global;
 /// with any bytes. After a remove, a crash may leave the file or not. Each call may answer `Memory` at any
 /// time, and `Fault` only with a unit of the shelf's own book.
 ///
-/// A shelf need not tell its content or its crash images, as a real folder cannot. Nothing is then
+/// Contracts need not see its content or its crash images: of a real folder they see neither. Nothing is then
 /// claimed of them.
 pub trait Shelf {
     /// The book of its failures.
@@ -22,19 +22,19 @@ pub trait Shelf {
     /// How many units were drawn from that book.
     ghost count: { Self → ℕ };
 
-    /// How many calls were made of it. A shelf that does not count them tells 0.
+    /// How many calls were made of it. It is 0 of a shelf that does not count them.
     ghost calls: { Self → ℕ };
 
-    /// Whether it tells its content.
+    /// Whether contracts see its content.
     ghost tells: { Self → Bool };
 
     /// The bytes of the file with a number, where there is one.
     ghost content: { Self → ℕ → Option (List ℕ) };
 
-    /// Whether it tells its crash images.
+    /// Whether contracts see its crash images.
     ghost tells_images: { Self → Bool };
 
-    /// What a crash at this moment may leave. A shelf that does not tell its images has none.
+    /// What a crash at this moment may leave. A shelf whose images contracts do not see has none.
     ghost may_leave: { Self → (ℕ → Option (List ℕ)) → Type 0 };
 
     /// The moment, as a number that does not fall.

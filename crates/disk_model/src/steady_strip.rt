@@ -5,8 +5,8 @@ use crate::{DeviceError, Strip};
 use std::alloc::Global;
 use std::marker::Model;
 
-/// A strip in memory that never fails. It tells its content and no crash images, and keeps nothing of its past.
-/// No unit is ever drawn from its book. Contracts see its device and its bytes.
+/// A strip in memory that never fails, and keeps nothing of its past. Contracts see its device and its bytes, and no
+/// crash images. No unit is ever drawn from its book.
 #[derive(Drop)]
 pub struct SteadyStrip {
     device: u8,
@@ -93,6 +93,7 @@ impl Strip for SteadyStrip {
         ensures written { OnOk result (Holds self.old.bytes at bytes.now self.new.bytes) }
         ensures refused { OnErr result (self.new.bytes ≡ self.old.bytes) }
         ensures memory { IfErr result (λ e. e ≡ Memory) }
+        ensures over { at + length bytes.now ≤ length self.old.bytes → IsOk result }
         ensures short { OnOk result (at + length bytes.now < 2 ^ 63) }
         ensures call { IsSteadyCall self.old self.new result }
     {

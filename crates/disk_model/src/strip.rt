@@ -13,7 +13,7 @@ use std::alloc::Global;
 /// those before and after a cut. A call that fails leaves what such an unsynced call may leave.
 /// Each call may answer `Memory` at any time, and `Fault` only with a unit of the strip's own book.
 ///
-/// A strip need not tell its content or its crash images, as a real file cannot. Nothing is then
+/// Contracts need not see its content or its crash images: of a real file they see neither. Nothing is then
 /// claimed of them.
 pub trait Strip {
     /// The book of its failures.
@@ -22,19 +22,19 @@ pub trait Strip {
     /// How many units were drawn from that book.
     ghost count: { Self → ℕ };
 
-    /// How many calls were made of it. A strip that does not count them tells 0.
+    /// How many calls were made of it. It is 0 of a strip that does not count them.
     ghost calls: { Self → ℕ };
 
-    /// Whether it tells its content.
+    /// Whether contracts see its content.
     ghost tells: { Self → Bool };
 
     /// The bytes that a read gives.
     ghost content: { Self → List ℕ };
 
-    /// Whether it tells its crash images.
+    /// Whether contracts see its crash images.
     ghost tells_images: { Self → Bool };
 
-    /// What a crash at this moment may leave. A strip that does not tell its images has none.
+    /// What a crash at this moment may leave. A strip whose images contracts do not see has none.
     ghost may_leave: { Self → List ℕ → Type 0 };
 
     /// The moment, as a number that does not fall.
