@@ -1,3 +1,6 @@
 mod CauseLemmas
 mod FileLemmas
 mod MarkLemmas
+mod NumberLemmas
+mod ShelfLemmas
+mod SlotLemmas

@@ -1,9 +1,9 @@
 -- Bytes of which some were marked. To know: marks-range, image-picked.
-use Rattle.std.proofs.Common.{◌≡◌, inl, inr, ℕ, zero, suc, ◌+◌, ◌-◌, ◌%◌, ◌≤◌, min, List, [], ◌∷◌, ◌++◌, length, take, drop, replicate, refl, sym, ap, subst, ◌∙◌, arith, length-append, ◌⊎◌}
+use Rattle.std.proofs.Common.{◌≡◌, inl, inr, ℕ, zero, suc, ◌+◌, ◌%◌, ◌≤◌, min, List, [], ◌∷◌, ◌++◌, length, take, drop, replicate, refl, sym, ap, subst, ◌∙◌, arith, length-append, ◌⊎◌}
 use Rattle.std.proofs.lemmas.Bool.{cases_lt}
 use Rattle.std.proofs.lemmas.List.{drop_all, length-drop, drop-drop}
-use Rattle.disk_model.specs.Strips.{Torn, Cut}
-use Rattle.disk_model.specs.FileState.{FileState, Alters, AlterAll, MayLeave, marked_in, marked_by, marked, left_by, crash_image}
+use Rattle.disk_model.specs.Strips.{Torn}
+use Rattle.disk_model.specs.FileState.{FileState, Alters, AlterAll, MayLeave, marked_in, marked, left_by, crash_image}
 use Rattle.disk_model.specs.FileLaws.{torn-twice, alter_all-same}
 use Rattle.disk_model.specs.declared.change.Change.{Change}
 use Rattle.disk_model.specs.declared.change.Change.TheVariants.{Written, CutTo}

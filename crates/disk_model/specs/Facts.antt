@@ -1,5 +1,5 @@
 -- What stays of a device, whatever calls are made of it, and the devices of a store.
-use Rattle.std.specs.Prelude.{◌≡◌, ℕ, ◌<◌, Bool, List, length, slice_get, Some}
+use Rattle.std.specs.Prelude.{◌≡◌, ℕ, Bool, length, slice_get, Some}
 use Rattle.disk_model.specs.Books.{BookName}
 use Rattle.disk_model.specs.declared.devices.Devices.{Devices}
 use Rattle.disk_model.specs.declared.limits.TheConstants.{LOG_STRIPS, MANIFEST_A, MANIFEST_B, SHELF}

@@ -1,10 +1,10 @@
 -- What the images of a strip in memory are. To know: images-changed, images-synced, image-picked.
-use Rattle.std.specs.Prelude.{◌≡◌, ◌⊎◌, ℕ, zero, suc, ◌+◌, ◌-◌, ◌%◌, ◌≤◌, List, [], ◌∷◌, ◌++◌, length, take, drop}
+use Rattle.std.specs.Prelude.{◌≡◌, ℕ, ◌+◌, ◌≤◌, List, [], ◌∷◌, ◌++◌, length, take, drop}
 use Rattle.std.proofs.Common.{inl, inr, arith, refl, sym, ◌∙◌, ap, subst, append_assoc, length-take, length-append, length-drop}
 use Rattle.std.proofs.lemmas.List.{take_all, take_at, drop_at, take_min}
 use Rattle.disk_model.specs.Strips.{Torn, Cut}
-use Rattle.disk_model.specs.Crashes.{Follows, Narrows, Only}
-use Rattle.disk_model.specs.FileState.{FileState, Alters, AlterAll, MayLeave, marked_in, marked_by, marked, left_by, crash_image, written, changed, file_of}
+use Rattle.disk_model.specs.Crashes.{Follows, Only}
+use Rattle.disk_model.specs.FileState.{FileState, Alters, AlterAll, MayLeave, changed, file_of}
 use Rattle.disk_model.specs.declared.change.Change.{Change}
 use Rattle.disk_model.specs.declared.change.Change.TheVariants.{Written, CutTo}
 

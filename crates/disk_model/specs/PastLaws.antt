@@ -1,6 +1,6 @@
 -- The laws of moments, for a device that keeps its earlier states. To know: since-earlier, since-now, since-push.
-use Rattle.std.specs.Prelude.{◌≡◌, ◌⊎◌, ℕ, zero, suc, ◌+◌, ◌≤◌, List, [], ◌∷◌, ◌++◌, length, drop}
-use Rattle.std.proofs.Common.{inl, inr, refl, sym, subst, arith, length-append}
+use Rattle.std.specs.Prelude.{◌≡◌, ◌⊎◌, ℕ, zero, suc, ◌≤◌, List, [], ◌∷◌, ◌++◌, length, drop}
+use Rattle.std.proofs.Common.{inl, inr, sym, subst, arith, length-append}
 use Rattle.std.proofs.lemmas.List.{drop-append-le}
 use Rattle.disk_model.specs.Crashes.{Elapses}
 use Rattle.disk_model.specs.Pasts.{LeftIn, LeftSince}

@@ -1,5 +1,5 @@
 -- What a crash might have left at earlier moments. `leaves` says what a crash leaves of one state.
-use Rattle.std.specs.Prelude.{◌≡◌, ◌⊎◌, ℕ, ◌≤◌, List, [], ◌∷◌, ◌++◌, length, drop}
+use Rattle.std.specs.Prelude.{◌⊎◌, ℕ, List, [], ◌∷◌, drop}
 
 -- at the moment of one of these states
 abbrev pub LeftIn : {F C : Type 0} → (F → C → Type 0) → List F → C → Type 0

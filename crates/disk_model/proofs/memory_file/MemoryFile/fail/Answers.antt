@@ -1,6 +1,4 @@
 -- A failed change leaves the bytes.
-use Rattle.std.proofs.Common.{sym, subst, List}
-use Rattle.disk_model.specs.MemoryState.{IsSoundFile}
 use Rattle.disk_model.proofs.FileLemmas.{sound-failed}
 use Rattle.disk_model.proofs.memory_file.MemoryFile.fail.Goals as goal
 

@@ -1,0 +1,212 @@
+//! Shelves: what they hold, which of their calls fail, and what a crash leaves.
+use crate::{DeviceError, MemoryShelf, Shelf, SteadyShelf};
+use std::alloc::Global;
+use std::process::Abort;
+use std::test::Fail;
+
+type Files<'a> = &'a [(u64, &'a [u8])];
+
+#[derive(Clone, Copy)]
+enum Call<'a> {
+    Put(u64, &'a [u8]),
+    Remove(u64),
+    Get(u64),
+    List,
+}
+
+fn shelf_of(alloc: Global, files: Files<'_>, failing: &[u64]) -> Result<MemoryShelf, Fail> {
+    let mut owned = Vec::new(alloc);
+    for i in 0..files.len() {
+        owned.push((files[i].0, Vec::from_slice(alloc, files[i].1)?))?;
+    }
+    Ok(MemoryShelf::new(alloc, owned, Vec::from_slice(alloc, failing)?)?)
+}
+
+// Makes a call, and answers how it ended.
+fn ended(alloc: Global, shelf: &mut MemoryShelf, call: Call<'_>) -> &'static str {
+    let error = match call {
+        Call::Put(number, bytes) => shelf.put(alloc, number, bytes).err(),
+        Call::Remove(number) => shelf.remove(alloc, number).err(),
+        Call::Get(number) => shelf.get(alloc, number).err(),
+        Call::List => shelf.list(alloc).err(),
+    };
+    match error {
+        None => "ok",
+        Some(DeviceError::Fault(_)) => "fault",
+        Some(DeviceError::Memory) => "memory",
+    }
+}
+
+fn has<H: Shelf>(
+    rt: &(impl Abort + AllocGlobal),
+    shelf: &mut H,
+    number: u64,
+    bytes: Option<&[u8]>,
+) -> Result<(), Fail> {
+    match (shelf.get(rt.alloc(), number)?, bytes) {
+        (Some(found), Some(bytes)) => assert!(rt; found.as_slice() == bytes),
+        (found, bytes) => assert!(rt; found.is_none() && bytes.is_none()),
+    }
+    Ok(())
+}
+
+fn lists<H: Shelf>(
+    rt: &(impl Abort + AllocGlobal),
+    shelf: &mut H,
+    numbers: &[u64],
+) -> Result<(), Fail> {
+    assert!(rt; shelf.list(rt.alloc())?.as_slice() == numbers);
+    Ok(())
+}
+
+// The shelf has these files and no others.
+fn has_all(
+    rt: &(impl Abort + AllocGlobal),
+    shelf: &mut MemoryShelf,
+    files: Files<'_>,
+) -> Result<(), Fail> {
+    assert!(rt; shelf.list(rt.alloc())?.len() == files.len());
+    for i in 0..files.len() {
+        has(rt, shelf, files[i].0, Some(files[i].1))?;
+    }
+    Ok(())
+}
+
+fn puts_replace<H: Shelf>(rt: &(impl Abort + AllocGlobal), shelf: &mut H) -> Result<(), Fail> {
+    let alloc = rt.alloc();
+    shelf.put(alloc, 7, b"seven")?;
+    shelf.put(alloc, 2, b"two")?;
+    shelf.put(alloc, 7, b"7")?;
+    has(rt, shelf, 7, Some(b"7"))?;
+    has(rt, shelf, 3, None)?;
+    lists(rt, shelf, &[2, 7])
+}
+
+fn removes_leave_the_others<H: Shelf>(
+    rt: &(impl Abort + AllocGlobal),
+    shelf: &mut H,
+) -> Result<(), Fail> {
+    let alloc = rt.alloc();
+    shelf.put(alloc, u64::MAX, b"")?;
+    shelf.remove(alloc, 7)?;
+    shelf.remove(alloc, 7)?;
+    has(rt, shelf, 7, None)?;
+    has(rt, shelf, u64::MAX, Some(b""))?;
+    lists(rt, shelf, &[2, u64::MAX])
+}
+
+#[test]
+fn shelves_hold_what_was_put(rt: HostRuntime) -> Result<(), Fail> {
+    let alloc = rt.alloc();
+    let mut memory = shelf_of(alloc, &[], &[])?;
+    puts_replace(&rt, &mut memory)?;
+    removes_leave_the_others(&rt, &mut memory)?;
+    let mut steady = SteadyShelf::new(alloc);
+    puts_replace(&rt, &mut steady)?;
+    removes_leave_the_others(&rt, &mut steady)
+}
+
+#[test]
+fn the_later_of_two_files_counts(rt: HostRuntime) -> Result<(), Fail> {
+    let mut shelf = shelf_of(rt.alloc(), &[(4, b"a"), (1, b"b"), (4, b"c")], &[])?;
+    has_all(&rt, &mut shelf, &[(1, b"b"), (4, b"c")])?;
+    let mut shelf = shelf.crash(0);
+    has_all(&rt, &mut shelf, &[(1, b"b"), (4, b"c")])
+}
+
+#[test]
+fn exactly_the_listed_calls_fail(rt: HostRuntime) -> Result<(), Fail> {
+    let mut shelf = shelf_of(rt.alloc(), &[(1, b"one")], &[0, 2, 4, 6, 900])?;
+    let calls: [(Call<'static>, &'static str); 7] = [
+        (Call::Put(1, b"x"), "fault"),
+        (Call::Get(1), "ok"),
+        (Call::Remove(1), "fault"),
+        (Call::List, "ok"),
+        (Call::Get(1), "fault"),
+        (Call::Put(2, b"two"), "ok"),
+        (Call::List, "fault"),
+    ];
+    for row in &calls {
+        let (call, end) = *row;
+        assert!(rt; ended(rt.alloc(), &mut shelf, call) == end);
+    }
+    assert_eq!(rt; shelf.calls(), 7);
+    assert_eq!(rt; shelf.faults(), 4);
+    has_all(&rt, &mut shelf, &[(1, b"one"), (2, b"two")])
+}
+
+// What each of the four crashes leaves of a shelf that went through this. A second crash leaves the same.
+fn crashes_leave(
+    rt: &(impl Abort + AllocGlobal),
+    failing: &[u64],
+    calls: &[Call<'_>],
+    left: [Files<'_>; 4],
+) -> Result<(), Fail> {
+    for pick in 0..4 {
+        let mut shelf = shelf_of(rt.alloc(), &[(1, b"one"), (3, b"three")], failing)?;
+        for call in calls {
+            ended(rt.alloc(), &mut shelf, *call);
+        }
+        let mut shelf = shelf.crash(pick as u64);
+        assert_eq!(rt; shelf.calls(), 0);
+        has_all(rt, &mut shelf, left[pick])?;
+        let mut shelf = shelf.crash(0);
+        has_all(rt, &mut shelf, left[pick])?;
+    }
+    Ok(())
+}
+
+#[test]
+fn a_crash_leaves_what_was_put(rt: HostRuntime) -> Result<(), Fail> {
+    let left: Files<'static> = &[(1, b"1"), (2, b"two"), (3, b"three")];
+    crashes_leave(
+        &rt,
+        &[0],
+        &[
+            Call::Put(1, b"lost"),
+            Call::Put(1, b"1"),
+            Call::Put(2, b"two"),
+        ],
+        [left, left, left, left],
+    )
+}
+
+#[test]
+fn a_crash_after_a_failed_put_leaves_what_is_picked(rt: HostRuntime) -> Result<(), Fail> {
+    crashes_leave(
+        &rt,
+        &[0],
+        &[Call::Put(1, b"abcde")],
+        [
+            &[(3, b"three")],
+            &[(1, b"abcde"), (3, b"three")],
+            &[(1, b"ab"), (3, b"three")],
+            &[(1, b"\xA5\xA5\xA5\xA5\xA5"), (3, b"three")],
+        ],
+    )?;
+    crashes_leave(
+        &rt,
+        &[0],
+        &[Call::Put(2, b"x"), Call::Remove(2)],
+        [
+            &[(1, b"one"), (3, b"three")],
+            &[(1, b"one"), (2, b"x"), (3, b"three")],
+            &[(1, b"one"), (2, b""), (3, b"three")],
+            &[(1, b"one"), (2, b"\xA5"), (3, b"three")],
+        ],
+    )
+}
+
+#[test]
+fn a_crash_may_undo_a_remove(rt: HostRuntime) -> Result<(), Fail> {
+    let kept: Files<'static> = &[(1, b"one"), (3, b"three")];
+    let gone: Files<'static> = &[(1, b"one")];
+    crashes_leave(&rt, &[], &[Call::Remove(3)], [kept, gone, gone, gone])?;
+    crashes_leave(&rt, &[0], &[Call::Remove(3)], [kept, gone, gone, gone])?;
+    crashes_leave(
+        &rt,
+        &[0],
+        &[Call::Remove(3), Call::Remove(3), Call::Remove(9)],
+        [kept, gone, gone, gone],
+    )
+}
