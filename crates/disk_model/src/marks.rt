@@ -10,7 +10,8 @@ use crate::limits::{ERASED_BYTE, STRAY_BYTE};
 /// those with another byte in place of each unsynced one.
 pub(crate) fn crash_bytes(bytes: &mut Vec<u8>, synced: &[u8], changes: &[Change], pick: u64)
     requires { length synced.now ≤ vec_capacity bytes.old }
-    ensures left { bytes.new.items ≡ crash_image pick (record { bytes = bytes.old.items; synced = synced.now; changes = changes.now }) }
+    ensures left { bytes.new.items ≡ crash_image pick
+        (record { bytes = bytes.old.items; synced = synced.now; changes = changes.now }) }
     ensures capacity { vec_capacity bytes.old ≤ vec_capacity bytes.new }
 {
     match pick % 4 {

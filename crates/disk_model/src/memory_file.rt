@@ -26,7 +26,8 @@ impl Model for MemoryFile {
 
     ghost view = { λ f. record { bytes = f.bytes.items; synced = f.synced.items; changes = f.changes.items } };
 
-    ghost invariant = { λ f. IsSoundFile f.bytes.items f.synced.items f.changes.items f.same (vec_capacity f.bytes) (vec_capacity f.synced) };
+    ghost invariant = { λ f. IsSoundFile f.bytes.items f.synced.items f.changes.items f.same
+        (vec_capacity f.bytes) (vec_capacity f.synced) };
 }
 
 impl MemoryFile {

@@ -8,7 +8,8 @@ use crate::{DeviceError, FaultBook, Shelf};
 use std::alloc::{AllocError, Global};
 use std::marker::Model;
 
-/// A shelf in memory. Contracts see its files and its crash images: it keeps which files a crash may lose or bring back.
+/// A shelf in memory. Contracts see its files and its crash images: it keeps which files a crash may lose or bring
+/// back.
 ///
 /// The calls with the numbers of a list fail, and no other but for want of memory: such a call changes no file, and the
 /// crash images are as after an unfinished put or remove. No crash comes within a call.
@@ -47,7 +48,8 @@ impl MemoryShelf {
         files: Vec<(u64, Vec<u8>)>,
         failing: Vec<u64>,
     ) -> Result<MemoryShelf, AllocError>
-        ensures content { IfOk result (λ shelf. (n : ℕ) → file_at shelf.files n ≡ with_files no_files files.items n) }
+        ensures content { IfOk result (λ shelf. (n : ℕ) →
+            file_at shelf.files n ≡ with_files no_files files.items n) }
         ensures synced { IfOk result (λ shelf. OnlyFiles (file_at shelf.files) (MayLeaveFiles shelf.files)) }
         ensures past { IfOk result (λ shelf. shelf.past ≡ []) }
         ensures failing { IfOk result (λ shelf. shelf.failing ≡ failing.items) }
@@ -87,11 +89,12 @@ impl MemoryShelf {
     /// | 2 | their first half | nothing |
     /// | 3 | as many bytes A5 | nothing |
     ///
-    /// Other files stay. A crash after it leaves the same. No call is to fail, and calls count from 0. The book goes on.
-    /// It takes no memory.
+    /// Other files stay. A crash after it leaves the same. No call is to fail, and calls count from 0. The book goes
+    /// on. It takes no memory.
     pub fn crash(mut self, pick: u64) -> MemoryShelf
         ensures files { result.files ≡ map (left_slot pick) self.files }
-        ensures content { (n : ℕ) → file_at result.files n ≡ picked_by (slot_at n self.files).doubt (pick % 4) (slot_at n self.files).file }
+        ensures content { (n : ℕ) → file_at result.files n ≡
+            picked_by (slot_at n self.files).doubt (pick % 4) (slot_at n self.files).file }
         ensures image { MayLeaveFiles self.files (file_at result.files) }
         ensures synced { OnlyFiles (file_at result.files) (MayLeaveFiles result.files) }
         ensures book { result.book ≡ self.book }
@@ -165,7 +168,8 @@ impl Shelf for MemoryShelf {
         ensures durable { OnOk result
             (Follows (Puts number bytes.now) (MayLeaveFiles self.old.files) (MayLeaveFiles self.new.files)) }
         ensures images { Follows (PutsOrNot number) (MayLeaveFiles self.old.files) (MayLeaveFiles self.new.files) }
-        ensures call { IsShelfCall (λ _. IsStepOf (PutsOrNot number) (MayLeaveFiles self.old.files)) self.old self.new result }
+        ensures call { IsShelfCall (λ _. IsStepOf (PutsOrNot number) (MayLeaveFiles self.old.files))
+            self.old self.new result }
     {
         let listed = self.begin();
         let bytes = Piece::copy_of(alloc, bytes)?;
@@ -179,8 +183,10 @@ impl Shelf for MemoryShelf {
 
     fn get(&mut self, alloc: Global, number: u64) -> Result<Option<Vec<u8>>, DeviceError>
         ensures listed { FailsAsListed self.old result }
-        ensures state { ShelfGoes self.old self.new (λ files. files ≡ self.old.files) (λ files. files ≡ self.old.files) result }
-        ensures found { IfOk result (λ found. option_map (λ bytes. bytes.items) found ≡ file_at self.old.files number) }
+        ensures state { ShelfGoes self.old self.new (λ files. files ≡ self.old.files)
+            (λ files. files ≡ self.old.files) result }
+        ensures found { IfOk result (λ found.
+            option_map (λ bytes. bytes.items) found ≡ file_at self.old.files number) }
         ensures content { file_at self.new.files ≡ file_at self.old.files }
         ensures images { Narrows (MayLeaveFiles self.old.files) (MayLeaveFiles self.new.files) }
         ensures call { IsShelfCall (λ s. MayLeaveFiles s.files) self.old self.new result }
@@ -193,7 +199,8 @@ impl Shelf for MemoryShelf {
 
     fn remove(&mut self, alloc: Global, number: u64) -> Result<(), DeviceError>
         ensures listed { EndsAsListed self.old result }
-        ensures state { ShelfGoes self.old self.new (SetsSlot number (removed (slot_at number self.old.files)) self.old.files)
+        ensures state { ShelfGoes self.old self.new
+            (SetsSlot number (removed (slot_at number self.old.files)) self.old.files)
             (SetsSlot number (remove_failed (slot_at number self.old.files)) self.old.files) result }
         ensures removed { OnOk result (Removes number (file_at self.old.files) (file_at self.new.files)) }
         ensures refused { OnErr result (RemovesOrNot number (file_at self.old.files) (file_at self.new.files)) }
@@ -211,7 +218,8 @@ impl Shelf for MemoryShelf {
 
     fn list(&mut self, alloc: Global) -> Result<Vec<u64>, DeviceError>
         ensures listed { FailsAsListed self.old result }
-        ensures state { ShelfGoes self.old self.new (λ files. files ≡ self.old.files) (λ files. files ≡ self.old.files) result }
+        ensures state { ShelfGoes self.old self.new (λ files. files ≡ self.old.files)
+            (λ files. files ≡ self.old.files) result }
         ensures numbers { IfOk result (λ numbers. AreNumbersOf numbers.items (file_at self.old.files)) }
         ensures content { file_at self.new.files ≡ file_at self.old.files }
         ensures images { Narrows (MayLeaveFiles self.old.files) (MayLeaveFiles self.new.files) }

@@ -62,7 +62,8 @@ pub trait Shelf {
             (option_map (λ bytes. bytes.items) found ≡ content self.old number)) }
         ensures content { IfTold (tells self.old) (content self.new ≡ content self.old) }
         ensures images { Narrows (may_leave self.old) (may_leave self.new) }
-        ensures call { IsCall book count calls tells tells_images moment left_since may_leave self.old self.new result };
+        ensures call { IsCall book count calls tells tells_images moment left_since may_leave
+            self.old self.new result };
 
     /// Removes a file. An absent number is no failure.
     fn remove(&mut self, alloc: Global, number: u64) -> Result<(), DeviceError>
@@ -71,7 +72,8 @@ pub trait Shelf {
         ensures refused { OnErr result (IfTold (tells self.old)
             (RemovesOrNot number (content self.old) (content self.new))) }
         ensures images { Follows (RemovesOrNot number) (may_leave self.old) (may_leave self.new) }
-        ensures call { IsCall book count calls tells tells_images moment left_since may_leave self.old self.new result };
+        ensures call { IsCall book count calls tells tells_images moment left_since may_leave
+            self.old self.new result };
 
     /// The numbers of the files, rising.
     fn list(&mut self, alloc: Global) -> Result<Vec<u64>, DeviceError>
@@ -79,16 +81,19 @@ pub trait Shelf {
             (AreNumbersOf numbers.items (content self.old))) }
         ensures content { IfTold (tells self.old) (content self.new ≡ content self.old) }
         ensures images { Narrows (may_leave self.old) (may_leave self.new) }
-        ensures call { IsCall book count calls tells tells_images moment left_since may_leave self.old self.new result };
+        ensures call { IsCall book count calls tells tells_images moment left_since may_leave
+            self.old self.new result };
 
     /// The content is one of the crash images.
     ghost own_image: { (s : Self) → IsTrue (tells s) → IsTrue (tells_images s) → may_leave s (content s) };
 
     /// This moment is one of those since an earlier one.
-    ghost counts_now: { (s : Self) (t : ℕ) (c : ℕ → Option (List ℕ)) → t ≤ moment s → may_leave s c → left_since s t c };
+    ghost counts_now: { (s : Self) (t : ℕ) (c : ℕ → Option (List ℕ)) → t ≤ moment s → may_leave s c →
+        left_since s t c };
 
     /// What counts since a moment counts since each earlier one.
-    ghost counts_earlier: { (s : Self) (t u : ℕ) (c : ℕ → Option (List ℕ)) → t ≤ u → left_since s u c → left_since s t c };
+    ghost counts_earlier: { (s : Self) (t u : ℕ) (c : ℕ → Option (List ℕ)) → t ≤ u → left_since s u c →
+        left_since s t c };
 
     /// Since this moment there is no other.
     ghost only_now: { (s : Self) (c : ℕ → Option (List ℕ)) → left_since s (moment s) c → may_leave s c };

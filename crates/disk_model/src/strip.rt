@@ -50,7 +50,8 @@ pub trait Strip {
         ensures short { IfOk result (λ len. len < 2 ^ 63) }
         ensures content { IfTold (tells self.old) (content self.new ≡ content self.old) }
         ensures images { Narrows (may_leave self.old) (may_leave self.new) }
-        ensures call { IsCall book count calls tells tells_images moment left_since may_leave self.old self.new result };
+        ensures call { IsCall book count calls tells tells_images moment left_since may_leave
+            self.old self.new result };
 
     /// Fills `into` from place `at`, and answers with how many bytes. Fewer than `into` has come
     /// only at the end, and past the end none.
@@ -60,7 +61,8 @@ pub trait Strip {
         ensures fits { IfOk result (λ count. count ≤ length into.old) }
         ensures content { IfTold (tells self.old) (content self.new ≡ content self.old) }
         ensures images { Narrows (may_leave self.old) (may_leave self.new) }
-        ensures call { IsCall book count calls tells tells_images moment left_since may_leave self.old self.new result };
+        ensures call { IsCall book count calls tells tells_images moment left_since may_leave
+            self.old self.new result };
 
     /// Writes `bytes` from place `at` on, over what is there and past the end.
     fn write_at(&mut self, alloc: Global, at: u64, bytes: &[u8]) -> Result<(), DeviceError>
@@ -71,7 +73,8 @@ pub trait Strip {
             (Torn at (length bytes.now) (content self.old) (content self.new))) }
         ensures short { OnOk result (at + length bytes.now < 2 ^ 63) }
         ensures images { Follows (Torn at (length bytes.now)) (may_leave self.old) (may_leave self.new) }
-        ensures call { IsCall book count calls tells tells_images moment left_since may_leave self.old self.new result };
+        ensures call { IsCall book count calls tells tells_images moment left_since may_leave
+            self.old self.new result };
 
     /// Leaves the first `at` bytes.
     fn cut(&mut self, alloc: Global, at: u64) -> Result<(), DeviceError>
@@ -81,7 +84,8 @@ pub trait Strip {
         ensures refused { OnErr result (IfTold (tells self.old)
             (Cut at (content self.old) (content self.new))) }
         ensures images { Follows (Cut at) (may_leave self.old) (may_leave self.new) }
-        ensures call { IsCall book count calls tells tells_images moment left_since may_leave self.old self.new result };
+        ensures call { IsCall book count calls tells tells_images moment left_since may_leave
+            self.old self.new result };
 
     /// After it, a crash leaves what a read gives.
     fn sync(&mut self, alloc: Global) -> Result<(), DeviceError>
@@ -89,7 +93,8 @@ pub trait Strip {
             (Only (content self.old) (may_leave self.new))) }
         ensures content { IfTold (tells self.old) (content self.new ≡ content self.old) }
         ensures images { Narrows (may_leave self.old) (may_leave self.new) }
-        ensures call { IsCall book count calls tells tells_images moment left_since may_leave self.old self.new result };
+        ensures call { IsCall book count calls tells tells_images moment left_since may_leave
+            self.old self.new result };
 
     /// The content is one of the crash images.
     ghost own_image: { (s : Self) → IsTrue (tells s) → IsTrue (tells_images s) → may_leave s (content s) };
