@@ -11,8 +11,8 @@ use std::marker::Model;
 /// A shelf in memory. Contracts see its files and its crash images: it keeps which files a crash may lose or bring
 /// back.
 ///
-/// The calls with the numbers of a list fail, and no other but for want of memory: such a call changes no file, and the
-/// crash images are as after an unfinished put or remove. No crash comes within a call.
+/// The calls with the numbers of a list fail, and any other only if it is out of memory. A failed call changes no file,
+/// and the crash images are as after an unfinished put or remove. No crash comes within a call.
 #[derive(Drop)]
 pub struct MemoryShelf {
     book: FaultBook,
