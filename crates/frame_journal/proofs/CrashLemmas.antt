@@ -1,13 +1,14 @@
--- What a crash leaves of a journal's strip. To know: spans-call, spans-both, crash-call, crash-calls, front-left, gate-left.
+-- What a crash leaves of a journal's strip. To know: spans-call, spans-both, crash-call, crash-calls, step-call, step-calls,
+-- no_more-call, no_more-both, front-left.
 use Rattle.std.proofs.Common.{◌≡◌, inl, inr, ℕ, ◌+◌, ◌<◌, ◌≤◌, true, false, List, [], ◌∷◌, length, take, drop, refl, sym, ap, subst, ◌∙◌, arith}
 use Rattle.std.proofs.lemmas.Bool.{cases_eq}
 use Rattle.std.proofs.lemmas.List.{length-take, length-take-le}
 use Rattle.disk_model.specs.declared.strip.Strip.{Ghosts}
-use Rattle.disk_model.specs.Crashes.{Elapses}
+use Rattle.disk_model.specs.Crashes.{IsStepOf, Follows, Narrows, Elapses}
 use Rattle.disk_model.specs.Strips.{Holds, Torn}
 use Rattle.disk_model.specs.FileLaws.{torn_held}
 use Rattle.frame_journal.specs.declared.format.TheConstants.{OPEN_GATE}
-use Rattle.frame_journal.specs.Devices.{Spans}
+use Rattle.frame_journal.specs.Devices.{LeavesNoMore, Spans}
 use Rattle.frame_journal.specs.Frames.{IsClosedAt, StandsFor}
 use Rattle.frame_journal.specs.declared.phase.Phase.{Phase}
 use Rattle.frame_journal.specs.declared.phase.Phase.TheVariants.{Fresh, Shut, Ready, Staged, Body, Gate}
@@ -18,10 +19,6 @@ use Rattle.frame_journal.proofs.JournalLemmas.{closed_stands_none}
 use Rattle.frame_journal.proofs.PhaseLemmas.{body-stands}
 
 module _ {S : Type 0} (strip : Ghosts S) where
-  -- no call
-  pub spans-none : (s : S) → Spans strip s s
-  spans-none s = record { later = omega arith; nothing_else = λ t c earlier since. inl since; keeps = λ t c earlier since. since }
-
   -- one call
   pub spans-call : (old new : S) → ((t : ℕ) (c : List ℕ) → t ≤ strip.moment new → strip.may_leave new c → strip.left_since new t c)
       → Elapses (strip.moment old) (strip.moment new) (strip.left_since old) (strip.left_since new) (strip.may_leave new) → Spans strip old new
@@ -67,6 +64,33 @@ module _ {S : Type 0} (strip : Ghosts S) where
     crash-spans old mid new first second in_first in_second c since =
         elim (second.nothing_else (strip.moment old) c first.later since) [ inl past ↦ in_first c past | inr later ↦ in_second c later ]
 
+  module _ (step : List ℕ → List ℕ → Type 0) (same : (c : List ℕ) → step c c) where
+    -- at each moment within a call an image is one from before, after a step of its kind
+    pub step-call : (old new : S) → ((c : List ℕ) → strip.left_since old (strip.moment old) c → strip.may_leave old c)
+        → Elapses (strip.moment old) (strip.moment new) (strip.left_since old) (strip.left_since new) (strip.may_leave new)
+        → Follows step (strip.may_leave old) (strip.may_leave new) → Follows step (strip.may_leave old) (strip.left_since new (strip.moment old))
+    step-call old new only time follows = crash-call (IsStepOf step (strip.may_leave old)) old new only time (λ c left. (c, left, same c)) follows
+
+    -- so it is within that call and one that adds no image
+    pub step-calls : (old mid new : S) → ((c : List ℕ) → strip.left_since old (strip.moment old) c → strip.may_leave old c)
+        → Elapses (strip.moment old) (strip.moment mid) (strip.left_since old) (strip.left_since mid) (strip.may_leave mid)
+        → Elapses (strip.moment mid) (strip.moment new) (strip.left_since mid) (strip.left_since new) (strip.may_leave new)
+        → Follows step (strip.may_leave old) (strip.may_leave mid) → Narrows (strip.may_leave mid) (strip.may_leave new)
+        → Follows step (strip.may_leave old) (strip.left_since new (strip.moment old))
+    step-calls old mid new only first second follows narrows =
+        crash-calls (IsStepOf step (strip.may_leave old)) old mid new only first second (λ c left. (c, left, same c)) follows (λ c left. follows c (narrows c left))
+
+  -- within a call that adds no image there is none but those from before
+  pub no_more-call : (old new : S) → ((c : List ℕ) → strip.left_since old (strip.moment old) c → strip.may_leave old c)
+      → Elapses (strip.moment old) (strip.moment new) (strip.left_since old) (strip.left_since new) (strip.may_leave new)
+      → Narrows (strip.may_leave old) (strip.may_leave new) → LeavesNoMore strip old new
+  no_more-call old new only time narrows = crash-call (strip.may_leave old) old new only time (λ c left. left) narrows
+
+  -- the same of calls, and calls after them
+  pub no_more-both : (old mid new : S) → Spans strip old mid → Spans strip mid new → Narrows (strip.may_leave old) (strip.may_leave mid)
+      → LeavesNoMore strip old mid → LeavesNoMore strip mid new → LeavesNoMore strip old new
+  no_more-both old mid new first second narrows in_first in_second = crash-spans (strip.may_leave old) old mid new first second in_first (λ c left. narrows c (in_second c left))
+
 -- torn twice in one range
 pub torn-twice : (at n : ℕ) (a b c : List ℕ) → Torn at n a b → Torn at n b c → Torn at n a c
 torn-twice at n a b c first second = record {
@@ -74,15 +98,6 @@ torn-twice at n a b c first second = record {
   after = second.after ∙ first.after;
   no_shorter = omega (arith, first.no_shorter, second.no_shorter);
   no_longer = omega (arith, first.no_longer, second.no_longer);
-}
-
--- two outcomes of one torn byte differ in that byte alone
-pub torn-byte : (at : ℕ) (a b c : List ℕ) → at < length a → Torn at 1 a b → Torn at 1 a c → Torn at 1 b c
-torn-byte at a b c inside first second = record {
-  before = second.before ∙ sym first.before;
-  after = second.after ∙ sym first.after;
-  no_shorter = omega (arith, inside, first.no_longer, second.no_shorter);
-  no_longer = omega (arith, inside, first.no_shorter, second.no_longer);
 }
 
 -- a write that was done is one of the outcomes of a torn one
@@ -115,6 +130,3 @@ first-stands bytes (byte ∷ image) stands same = elim (cases_eq byte OPEN_GATE)
       inr (subst (StandsFor (covered bytes)) is stands)
   | inr shut ↦ inl (closed_stands_none (byte ∷ image) (record { inside = omega arith; closed = shut }))
 ]
-
-pub holds-drop : (old new : List ℕ) → Torn 0 1 old new → drop 1 new ≡ drop 1 old
-holds-drop old new torn = torn.after

@@ -4,3 +4,4 @@ pub mod OpeningLemmas
 pub mod PhaseLemmas
 pub mod CrashLemmas
 pub mod StandingLemmas
+pub mod PhaseCalls

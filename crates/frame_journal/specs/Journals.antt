@@ -27,19 +27,19 @@ pub record IsFramed (staged : List ℕ) : Type 0 where
   pub some : 1 ≤ length (unframed staged)
   pub most : length (unframed staged) ≤ PAYLOAD_MAX
 
--- the frames that stand before this end: those that there are where a closed gate stands at it
+-- the frames that stand before this end: the whole frames of the bytes before it, with a closed gate put after them
 abbrev pub standing_to : ℕ → List ℕ → List FrameValue
 standing_to end bytes = frames_of (take end bytes ++ CLOSED_GATE ∷ [])
 
--- the frames that stand in a ready journal's strip, without the staged one; a journal that is not ready has none by it
+-- the frames that stand in a ready journal's strip, without the staged one; in a journal that is not ready there are none
 abbrev pub standing : {S : Type 0} → Ghosts S → JournalState S → List FrameValue
 standing strip journal = standing_to journal.end (strip.content journal.strip)
 
--- those and the staged one
+-- these frames, and the staged one after them
 abbrev pub with_staged : {S : Type 0} → Ghosts S → JournalState S → List FrameValue
 with_staged strip journal = standing strip journal ++ staged_frame journal ∷ []
 
--- where the strip tells its bytes, these frames stand in the journal
+-- these frames stand in the journal, if contracts see the strip's bytes
 abbrev pub HasStanding : {S : Type 0} → Ghosts S → JournalState S → List FrameValue → Type 0
 HasStanding strip journal frames = OfBytes strip journal.strip (λ bytes. standing_to journal.end bytes ≡ frames)
 
@@ -47,15 +47,16 @@ HasStanding strip journal frames = OfBytes strip journal.strip (λ bytes. standi
 abbrev pub opened : List ℕ → List ℕ
 opened bytes = OPEN_GATE ∷ drop 1 bytes
 
--- the frames that stand, or stood before a clear began to close the gate at place 0
+-- the frames that stand, or that stood before a clear began to close the gate at place 0
 abbrev pub covered : List ℕ → List FrameValue
 covered bytes = frames_of (opened bytes)
 
--- the frames that a refused clear may still leave, or open again: where it begins after the gate, none
+-- the frames that may still stand after a clear that failed; there are none if the gate at place 0 is already closed and
+-- synced
 abbrev pub survivors : {S : Type 0} → Ghosts S → JournalState S → List FrameValue
 survivors strip journal = if closes_gate journal then covered (strip.content journal.strip) else []
 
--- where the strip tells its bytes, these frames are that may survive in a clear
+-- these frames are those that may survive a clear, if contracts see the strip's bytes
 abbrev pub HasSurvivors : {S : Type 0} → Ghosts S → JournalState S → List FrameValue → Type 0
 HasSurvivors strip journal frames = IfTold (strip.tells journal.strip) (survivors strip journal ≡ frames)
 
@@ -95,7 +96,7 @@ StagedIn Staged staged = IsFramed staged
 StagedIn Body staged = IsFramed staged
 StagedIn Gate staged = IsFramed staged
 
--- a journal's numbers are sound, and so is what they say of the strip's bytes, where it tells them
+-- a journal's numbers are sound, and so is what they say of the strip's bytes, if contracts see them
 pub record IsSound (told : Bool) (bytes : List ℕ) (images : List ℕ → Type 0) (phase : Phase) (end : ℕ) (staged : List ℕ) : Type 0 where
   pub below : end + length staged ≤ 2 ^ 63
   pub begins : ready_in phase ≡ false → end ≡ 0

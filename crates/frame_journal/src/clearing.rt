@@ -9,6 +9,7 @@ ghost use Rattle.frame_journal.specs.declared.phase.Phase.TheVariants.{Fresh, Sh
 use crate::Journal;
 use crate::format::CLOSED_GATE;
 use crate::phase::Phase;
+use crate::synced::{cut_synced, write_synced};
 use disk_model::{DeviceError, Strip};
 use std::alloc::Global;
 
@@ -56,8 +57,7 @@ impl<S: Strip> Journal<S> {
         ensures strip { SameStrip S.Strip 2 self.old.strip self.new.strip }
         ensures cause { CauseIn S.Strip self.old.strip self.new.strip result }
     {
-        self.strip.write_at(alloc, 0, &[CLOSED_GATE])?;
-        self.strip.sync(alloc)?;
+        write_synced(alloc, &mut self.strip, 0, &[CLOSED_GATE])?;
         self.phase = Phase::Shut;
         Ok(())
     }
@@ -80,8 +80,7 @@ impl<S: Strip> Journal<S> {
         ensures strip { SameStrip S.Strip 2 self.old.strip self.new.strip }
         ensures cause { CauseIn S.Strip self.old.strip self.new.strip result }
     {
-        self.strip.cut(alloc, 1)?;
-        self.strip.sync(alloc)?;
+        cut_synced(alloc, &mut self.strip, 1)?;
         self.phase = Phase::Ready;
         Ok(())
     }

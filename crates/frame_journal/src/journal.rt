@@ -1,12 +1,13 @@
 //! The journal: what it promises before and after each call.
-ghost use Rattle.std.specs.Prelude.{◌≡◌, ◌+◌, ◌<◌, ◌≤◌, ◌^◌, true, false, nat_lt, [], ◌∷◌, length, is_ok, is_err, Ok, IfOk, OnOk, OnErr, IfErr};
+ghost use Rattle.std.specs.Prelude.{◌≡◌, ◌+◌, ◌<◌, ◌≤◌, ◌^◌, true, false, nat_lt, [], ◌∷◌, length, vec_capacity, is_ok, is_err, Ok, IsOk, IfOk, OnOk, OnErr, IfErr};
 ghost use Rattle.disk_model.specs.Crashes.{Narrows};
-ghost use Rattle.frame_journal.specs.Devices.{SameStrip, CauseIn, OfBytes, KeepsBytes, IsSynced, OfImages, OfCrashes, Spans};
+ghost use Rattle.frame_journal.specs.Devices.{SameStrip, CauseIn, OfBytes, KeepsBytes, IsSynced, LeavesNoMore, OfImages, OfCrashes, Spans};
 ghost use Rattle.frame_journal.specs.Frames.{IsClosedAt, StandsFor, HasNoTorn, frame_size, end_of};
 ghost use Rattle.frame_journal.specs.JournalState.{is_ready, has_staged, is_in_doubt, is_written, closes_gate, staged_frame};
 ghost use Rattle.frame_journal.specs.Journals.{standing, with_staged, HasStanding, survivors, HasSurvivors, IsEmptied, Leaves, StandsForNoneOr, StandsWithOrWithout};
 ghost use Rattle.frame_journal.specs.Causes.{OpeningCause};
-ghost use Rattle.frame_journal.specs.Openings.{TellsTorn, strip_of};
+ghost use Rattle.frame_journal.specs.Openings.{TellsTorn, TornIsSynced, strip_of};
+ghost use Rattle.frame_journal.specs.declared.format.TheConstants.{FRAMING, END_MAX};
 ghost use Rattle.frame_journal.specs.declared.phase.Phase.TheVariants.{Fresh, Shut, Ready, Staged, Body, Gate};
 
 use crate::format::{CLOSED_GATE, END_MAX, FRAMING, PAYLOAD_MAX};
@@ -56,14 +57,16 @@ impl<S: Strip> Journal<S> {
         ensures shut { IfOk result (λ found. OfBytes S.Strip strip
             (λ bytes. IsClosedAt bytes 0 → closes_gate found.0 ≡ false)) }
 
-        // A torn header is told exactly where one is; an open journal has none.
+        // A torn header is reported exactly if there is one, and then it is synced; an open journal has none.
         ensures torn { IfErr result (λ refused. OfBytes S.Strip strip (TellsTorn refused.1)) }
+        ensures torn_synced { IfErr result (λ refused. TornIsSynced S.Strip refused.0 refused.1) }
         ensures whole { OnOk result (OfBytes S.Strip strip HasNoTorn) }
 
-        // The strip is given back as it was, synced.
+        // The strip is given back as it was, synced. At each moment a crash leaves what it might have left before.
         ensures strip { SameStrip S.Strip 3 strip (strip_of result) }
         ensures content { KeepsBytes S.Strip strip (strip_of result) }
         ensures images { Narrows (S.may_leave strip) (S.may_leave (strip_of result)) }
+        ensures crash { LeavesNoMore S.Strip strip (strip_of result) }
         ensures time { Spans S.Strip strip (strip_of result) }
         ensures synced { OnOk result (IsSynced S.Strip (strip_of result)) }
         ensures cause { IfErr result
@@ -166,8 +169,8 @@ impl<S: Strip> Journal<S> {
     }
 
     /// Stages a frame with this payload. It makes room for the length and the next gate in the
-    /// payload's own memory, and no device call. Where the journal's end would pass 2^63, the answer
-    /// is out of memory, too.
+    /// payload's own memory, and no device call. If the journal's end would pass 2^63, the answer is
+    /// out of memory, too; else only if the payload has no room and there is no memory.
     pub fn stage(&mut self, _alloc: Global, payload: Vec<u8>) -> Result<(), (Vec<u8>, AllocError)>
         requires ready { is_ready self.old ≡ true }
         requires idle { has_staged self.old ≡ false }
@@ -179,6 +182,9 @@ impl<S: Strip> Journal<S> {
         ensures ready { is_ready self.new ≡ true }
         ensures strip { self.new.strip ≡ self.old.strip }
         ensures end { self.new.end ≡ self.old.end }
+        ensures within { OnOk result (self.old.end + FRAMING + length payload.items ≤ END_MAX) }
+        ensures room { self.old.end + FRAMING + length payload.items ≤ END_MAX →
+            length payload.items + FRAMING ≤ vec_capacity payload → IsOk result }
         ensures refused { IfErr result (λ refused. refused.0.items ≡ payload.items) }
         ensures same { OnErr result (self.new ≡ self.old) }
         ensures leaves { Leaves S.Strip self.new }
