@@ -1,4 +1,5 @@
--- The counts of calls that go on where a signal interrupts them. The lemmas to know are `interrupted-more` and `interrupted-kept`.
+-- The counts of calls that go on where a signal interrupts them. The lemmas to know are `interrupted-more` and
+-- `interrupted-kept`.
 use Rattle.std.proofs.Common.{◌≡◌, ℕ, ◌+◌, refl, ap, ◌∙◌, arith}
 use Rattle.link_model.specs.declared.attempts.CallCounts.{CallCounts}
 use Rattle.link_model.specs.declared.attempts.CallError.{CallError}
@@ -14,7 +15,8 @@ pub interrupted-kept : (n : ℕ) (a b c : CallCounts) → WereInterrupted n a b 
 interrupted-kept n a b c h same = rw same h
 
 -- one interrupt more
-pub interrupted-more : (n : ℕ) (a b c : CallCounts) (error : CallError) → WereInterrupted n a b → error ≡ Interrupted → IsCountedAs b c error → WereInterrupted (n + 1) a c
+pub interrupted-more : (n : ℕ) (a b c : CallCounts) (error : CallError) → WereInterrupted n a b → error ≡ Interrupted
+    → IsCountedAs b c error → WereInterrupted (n + 1) a c
 interrupted-more n a b c Interrupted h is (more, rose) =
     let interrupts = ap (λ (t : CallCounts). t.interrupts) more in
     record {

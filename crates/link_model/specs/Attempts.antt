@@ -9,7 +9,8 @@ use Rattle.link_model.specs.declared.limits.TheConstants.{INTERRUPTS_MAX}
 
 -- the counts after a call that did nothing: one of them rose by one
 abbrev pub IsCountedAs : CallCounts → CallCounts → CallError → Type 0
-IsCountedAs old new Interrupted = (new ≡ record old { interrupts = one_more old.interrupts }) × (old.interrupts ≤ new.interrupts)
+IsCountedAs old new Interrupted = (new ≡ record old { interrupts = one_more old.interrupts })
+    × (old.interrupts ≤ new.interrupts)
 IsCountedAs old new Failed = (new ≡ record old { failures = one_more old.failures }) × (old.failures ≤ new.failures)
 
 -- the counts after one call

@@ -1,4 +1,4 @@
--- What is gathered before a writer gets it, and what was read before it was asked for, where a writer's and a reader's bytes are known.
+-- What is gathered before a writer gets it, and what a reader read ahead, where their bytes are known.
 use Rattle.std.specs.Prelude.{ℕ, ◌≤◌, List, length, take, drop, Option, Result, Ok, Err}
 use Rattle.std.specs.Io.KnownBytes.{append_known, Appends}
 

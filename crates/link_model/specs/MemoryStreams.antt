@@ -8,7 +8,8 @@ pub record SourceState : Type 0 where
   pub calls : ℕ
   pub faults : ℕ
 
--- a sink in memory: the bytes that it took, how many it has room for, the numbers of the calls that fail, the calls so far, the faults so far
+-- a sink in memory: the bytes that it took, how many it has room for, the numbers of the calls that fail, the calls so
+-- far, the faults so far
 pub record SinkState : Type 0 where
   pub bytes : List ℕ
   pub room : ℕ
@@ -20,7 +21,8 @@ pub record SinkState : Type 0 where
 pub record SteadySourceState : Type 0 where
   pub bytes : List ℕ
 
--- a sink in memory that fails only where its room is passed: the bytes that it took, how many it has room for, the faults so far
+-- a sink in memory that fails only where its room is passed: the bytes that it took, how many it has room for, the
+-- faults so far
 pub record SteadySinkState : Type 0 where
   pub bytes : List ℕ
   pub room : ℕ

@@ -21,13 +21,14 @@ pub(crate) struct Ahead {
 }
 
 impl Model for Ahead {
-    ghost use Rattle.std.specs.Prelude.{ℕ, ◌-◌, ◌<◌, ◌≤◌, List, take, drop, vec_len};
+    ghost use Rattle.std.specs.Prelude.{◌≡◌, ℕ, ◌-◌, ◌≤◌, List, take, drop, vec_len};
+    ghost use Rattle.link_model.specs.declared.limits.TheConstants.{READ_AHEAD_MAX};
 
     ghost Value = { List ℕ };
 
     ghost view = { λ a. take (a.end - a.at) (drop a.at a.buffer.items) };
 
-    ghost invariant = { λ a. (a.at ≤ a.end) × (a.end ≤ vec_len a.buffer) × (0 < vec_len a.buffer) };
+    ghost invariant = { λ a. (a.at ≤ a.end) × (a.end ≤ vec_len a.buffer) × (vec_len a.buffer ≡ READ_AHEAD_MAX) };
 }
 
 impl Ahead {

@@ -1,5 +1,6 @@
 //! The edge of the system, one call each. Calls that fail or are interrupted are counted here alone.
-ghost use Rattle.std.specs.Prelude.{◌≡◌, ◌<◌, ◌≤◌, false, true, length, IfOk, OnOk};
+ghost use Rattle.std.specs.Prelude.{◌≡◌, ◌↔◌, ◌<◌, ◌≤◌, false, true, length, IfOk, OnOk};
+ghost use Rattle.std.specs.IoError.{error_kind};
 ghost use Rattle.std.specs.Io.KnownBytes.{Keeps, ReadConsumes, WriteAppends};
 ghost use Rattle.link_model.specs.Attempts.{IsCounted, IsCountedAs};
 
@@ -34,7 +35,8 @@ pub(crate) struct Attempts<T> {
 
 impl CallCounts {
     fn count(&mut self, error: &io::Error) -> CallError
-        ensures { IsCountedAs self.old self.new result }
+        ensures counted { IsCountedAs self.old self.new result }
+        ensures kind { (result ≡ CallError.Interrupted) ↔ (error_kind error.now ≡ ErrorKind.Interrupted) }
     {
         if error.kind() == ErrorKind::Interrupted {
             self.interrupts.rise();
@@ -48,7 +50,9 @@ impl CallCounts {
 
 impl<T> Attempts<T> {
     pub(crate) fn new(stream: T) -> Attempts<T>
-        ensures { result.stream ≡ stream }
+        ensures stream { result.stream ≡ stream }
+        ensures counts { (result.counts.failures ≡ 0) × (result.counts.interrupts ≡ 0) }
+        ensures flushed { result.is_flushed ≡ true }
     {
         Attempts {
             stream,

@@ -27,7 +27,13 @@ impl Model for ByteSink {
 
     ghost Value = { SinkState };
 
-    ghost view = { λ k. record { bytes = k.bytes.items; room = k.room; failing = k.failing.items; calls = k.calls; faults = k.faults } };
+    ghost view = { λ k. record {
+      bytes = k.bytes.items;
+      room = k.room;
+      failing = k.failing.items;
+      calls = k.calls;
+      faults = k.faults;
+    } };
 
     ghost invariant = { λ k. (length k.bytes.items ≤ k.room) × (k.room ≤ vec_capacity k.bytes) };
 }
@@ -36,7 +42,13 @@ impl ByteSink {
     /// A sink with room for `room` bytes, all of whose memory it takes now, and whose calls with
     /// the numbers `failing` fail. `AllocError` comes where memory has no such room.
     pub fn new(alloc: Global, room: u64, failing: Vec<u64>) -> Result<ByteSink, AllocError>
-        ensures { IfOk result (λ k. k ≡ record { bytes = []; room = room; failing = failing.items; calls = 0; faults = 0 }) }
+        ensures { IfOk result (λ k. k ≡ record {
+          bytes = [];
+          room = room;
+          failing = failing.items;
+          calls = 0;
+          faults = 0;
+        }) }
     {
         let bytes = Vec::with_capacity(alloc, room as usize)?;
         Ok(ByteSink {

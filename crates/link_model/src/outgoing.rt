@@ -41,7 +41,9 @@ impl<W: Write + Drop> Outgoing<W> {
 
     /// Writes what is held back and flushes. If a write fails, what was not written stays held.
     pub(crate) fn pass_on(&mut self) -> Result<PassedOn, Failed>
-        ensures bytes { Keeps (given (W.contents self.old.writer.stream) self.old.passed self.old.held.items) (given (W.contents self.new.writer.stream) self.new.passed self.new.held.items) }
+        ensures bytes { Keeps
+            (given (W.contents self.old.writer.stream) self.old.passed self.old.held.items)
+            (given (W.contents self.new.writer.stream) self.new.passed self.new.held.items) }
         ensures emptied { OnOk result (self.new.held.items ≡ []) }
         ensures flushed { OnOk result (self.new.writer.is_flushed ≡ true) }
         ensures calls { HasTried self.old.writer.counts self.new.writer.counts result }
@@ -60,7 +62,10 @@ impl<W: Write + Drop> Outgoing<W> {
     /// Writes a piece to the end, and flushes. Nothing is held back.
     fn write_through(&mut self, piece: &[u8]) -> Result<(), Failed>
         requires { self.old.held.items ≡ [] }
-        ensures bytes { Gives (given (W.contents self.old.writer.stream) self.old.passed self.old.held.items) (given (W.contents self.new.writer.stream) self.new.passed self.new.held.items) result piece.now }
+        ensures bytes { Gives
+            (given (W.contents self.old.writer.stream) self.old.passed self.old.held.items)
+            (given (W.contents self.new.writer.stream) self.new.passed self.new.held.items)
+            result piece.now }
         ensures held { self.new.held.items ≡ [] }
         ensures calls { HasTried self.old.writer.counts self.new.writer.counts result }
     {
@@ -71,9 +76,12 @@ impl<W: Write + Drop> Outgoing<W> {
     }
 
     /// Holds the piece back. What was held back before is passed on first if the piece does not
-    /// fit behind it, or is empty; a piece that no buffer has room for is written through.
+    /// fit after it, or is empty; a piece that no buffer has room for is written through.
     pub(crate) fn put(&mut self, piece: &[u8]) -> Result<(), Failed>
-        ensures bytes { Gives (given (W.contents self.old.writer.stream) self.old.passed self.old.held.items) (given (W.contents self.new.writer.stream) self.new.passed self.new.held.items) result piece.now }
+        ensures bytes { Gives
+            (given (W.contents self.old.writer.stream) self.old.passed self.old.held.items)
+            (given (W.contents self.new.writer.stream) self.new.passed self.new.held.items)
+            result piece.now }
         ensures emptied { OnOk result (length piece.now ≡ 0 → self.new.held.items ≡ []) }
         ensures flushed { OnOk result (length piece.now ≡ 0 → self.new.writer.is_flushed ≡ true) }
         ensures calls { HasTried self.old.writer.counts self.new.writer.counts result }

@@ -1,5 +1,5 @@
 //! A source and a sink over a reader and a writer of the system, as one pair.
-ghost use Rattle.std.specs.Prelude.{◌≡◌, IfOk};
+ghost use Rattle.std.specs.Prelude.{◌≡◌, [], IfOk};
 
 use crate::ahead::Ahead;
 use crate::attempts::Attempts;
@@ -24,6 +24,8 @@ pub fn stream_pair<R: Read + Drop, W: Write + Drop>(
     writer: W,
 ) -> Result<(ReaderSource<R, W>, WriterSink<W>), AllocError>
     ensures source { IfOk result (λ pair. pair.0.faults ≡ 0) }
+    ensures reader { IfOk result (λ pair. pair.0.reader.stream ≡ reader) }
+    ensures ahead { IfOk result (λ pair. pair.0.ahead ≡ []) }
     ensures sink { IfOk result (λ pair. pair.1.faults ≡ 0) }
 {
     let ahead = Ahead::new(alloc)?;

@@ -46,7 +46,9 @@ impl<R: Read + Drop, W: Write + Drop> ReaderSource<R, W> {
 
     /// Reads ahead, if nothing is left of what was read.
     fn read_ahead(&mut self) -> Result<(), Failed>
-        ensures bytes { Keeps (prepend_known self.old.ahead (R.remaining self.old.reader.stream)) (prepend_known self.new.ahead (R.remaining self.new.reader.stream)) }
+        ensures bytes { Keeps
+            (prepend_known self.old.ahead (R.remaining self.old.reader.stream))
+            (prepend_known self.new.ahead (R.remaining self.new.reader.stream)) }
         ensures end { OnOk result (self.new.ahead ≡ [] → IsAtEnd (R.remaining self.new.reader.stream)) }
         ensures faults { self.new.faults ≡ self.old.faults }
         ensures idle { 0 < length self.old.ahead → (result ≡ Ok tt) × (self.new ≡ self.old) }
@@ -68,7 +70,10 @@ impl<R: Read + Drop, W: Write + Drop> Source for ReaderSource<R, W> {
         requires { 0 < length into.old }
         ensures bytes { TakesFront None None result into.new }
         ensures cause { HasCause OneFault self.old.faults self.new.faults result }
-        ensures read { ReadConsumes (prepend_known self.old.ahead (R.remaining self.old.reader.stream)) (prepend_known self.new.ahead (R.remaining self.new.reader.stream)) result into.new }
+        ensures read { ReadConsumes
+            (prepend_known self.old.ahead (R.remaining self.old.reader.stream))
+            (prepend_known self.new.ahead (R.remaining self.new.reader.stream))
+            result into.new }
 
         // What was read ahead is handed out without a call of the system.
         ensures ahead { 0 < length self.old.ahead → IsOk result × (self.new.reader ≡ self.old.reader) }

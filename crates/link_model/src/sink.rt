@@ -7,13 +7,13 @@ use crate::failed::Failed;
 
 /// Where bytes go to.
 pub trait Sink {
-    /// The bytes that it took, where it tells them.
+    /// The bytes that it took, where contracts see them.
     ghost written: { Self → Option (List ℕ) };
 
     /// How often it failed. The count stands still at 2^64 - 1.
     ghost faults: { Self → ℕ };
 
-    /// Puts the whole piece behind what it took, or fails behind a front of it. An empty piece is
+    /// Puts the whole piece after what it took, or fails after a front of it. An empty piece is
     /// allowed: a sink that gathers passes on what it holds at that call.
     fn put(&mut self, piece: &[u8]) -> Result<(), Failed>
         ensures bytes { PutsFront (written self.old) (written self.new) result piece.now }

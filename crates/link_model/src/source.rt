@@ -7,7 +7,7 @@ use crate::failed::Failed;
 
 /// Where bytes come from.
 pub trait Source {
-    /// The bytes that are left, where it tells them.
+    /// The bytes that are left, where contracts see them.
     ghost left: { Self → Option (List ℕ) };
 
     /// How often it failed. The count stands still at 2^64 - 1.

@@ -10,7 +10,7 @@ use std::io::Write;
 use std::sync::{Arc, Mutex};
 
 /// A sink over a writer, made by `stream_pair`. It gathers what is put, up to 65,536 bytes. It passes
-/// that on when the next piece does not fit behind it, at a put of an empty piece, and before its
+/// that on when the next piece does not fit after it, at a put of an empty piece, and before its
 /// source waits for input. What is still held when both are let go is lost, so the last put is of
 /// an empty piece.
 ///

@@ -1,5 +1,6 @@
 //! Streams over a reader and a writer.
 use crate::limits::INTERRUPTS_MAX;
+use crate::tests::calls::{gives, puts};
 use crate::tests::wire::End;
 use crate::{Failed, ReaderSource, Sink, Source, WriterSink, stream_pair};
 use std::alloc::Global;
@@ -9,37 +10,28 @@ fn pair_over(alloc: Global, end: &End) -> Result<(ReaderSource<End, End>, Writer
     Ok(stream_pair(alloc, end.other()?, end.other()?)?)
 }
 
-/// Bytes no part of which is like its neighbour.
-fn pattern(alloc: Global, len: usize) -> Result<Vec<u8>, Fail> {
-    let mut bytes = Vec::with_capacity(alloc, len)?;
-    for i in 0..len {
-        bytes.push((i % 251) as u8)?;
-    }
-    Ok(bytes)
-}
+/// 53 bytes that differ, a prime number: where they are repeated, no two writes of 4,096 are alike.
+const PATTERN: &[u8] = b"abcdefghijklmnopqrstuvwxyz0123456789ABCDEFGHIJKLMNOPQ";
 
 #[test]
 fn replies_are_passed_on_before_input_is_awaited(rt: HostRuntime) -> Result<(), Fail> {
-    let end = End::new(rt.alloc(), &[b"abc".as_slice(), b"d".as_slice()], 1)?;
+    let end = End::new(rt.alloc(), (b"abc", b"d"), 1)?;
     let (mut source, mut sink) = pair_over(rt.alloc(), &end)?;
-    let mut into = [0; 1];
-    for want in b"abc" {
-        assert_eq!(rt; source.take(&mut into), Ok(1));
-        assert_eq!(rt; &into[0], want);
-        assert_eq!(rt; sink.put(&[*want, b'!']), Ok(()));
-        assert!(rt; end.has_seen(b"fr", b""));
-    }
-    assert_eq!(rt; source.take(&mut into), Ok(1));
-    assert_eq!(rt; &into, b"d");
-    assert!(rt; end.has_seen(b"frwfr", b"a!b!c!"));
-    assert_eq!(rt; source.take(&mut into), Ok(0));
-    assert!(rt; end.has_seen(b"frwfrfr", b"a!b!c!"));
+    gives(&rt, &mut source, Ok(b"ab"));
+    puts(&rt, &mut sink, b"ab!", Ok(()));
+    gives(&rt, &mut source, Ok(b"c"));
+    puts(&rt, &mut sink, b"c!", Ok(()));
+    assert!(rt; end.has_seen(b"fr", b""));
+    gives(&rt, &mut source, Ok(b"d"));
+    assert!(rt; end.has_seen(b"frwfr", b"ab!c!"));
+    gives(&rt, &mut source, Ok(b""));
+    assert!(rt; end.has_seen(b"frwfrfr", b"ab!c!"));
     Ok(())
 }
 
 #[test]
 fn a_broken_wire_fails_each_call_once_and_loses_nothing(rt: HostRuntime) -> Result<(), Fail> {
-    let end = End::new(rt.alloc(), &[b"a".as_slice()], 0)?;
+    let end = End::new(rt.alloc(), (b"a", b""), 0)?;
     let (mut source, mut sink) = pair_over(rt.alloc(), &end)?;
     let mut into = [0; 1];
     assert_eq!(rt; sink.put(b"z"), Ok(()));
@@ -62,13 +54,13 @@ fn a_broken_wire_fails_each_call_once_and_loses_nothing(rt: HostRuntime) -> Resu
 #[test]
 fn a_piece_that_does_not_fit_passes_on_what_was_held(rt: HostRuntime) -> Result<(), Fail> {
     let alloc = rt.alloc();
-    let end = End::new(alloc, &[], 0)?;
+    let end = End::new(alloc, (b"", b""), 0)?;
     let (_source, mut sink) = pair_over(alloc, &end)?;
-    let piece = pattern(alloc, 40_000)?;
+    let piece = PATTERN.repeat(alloc, 755)?;
     assert_eq!(rt; sink.put(&piece), Ok(()));
     assert!(rt; end.has_seen(b"", b""));
     assert_eq!(rt; sink.put(&piece), Ok(()));
-    // Ten writes of at most 4,096 bytes.
+    // Ten writes of at most 4,096 bytes: 40,015 are nine of them and 3,151.
     assert!(rt; end.has_seen(b"wwwwwwwwwwf", &piece));
     Ok(())
 }
@@ -76,14 +68,14 @@ fn a_piece_that_does_not_fit_passes_on_what_was_held(rt: HostRuntime) -> Result<
 #[test]
 fn a_piece_of_several_buffers_is_written_whole(rt: HostRuntime) -> Result<(), Fail> {
     let alloc = rt.alloc();
-    let end = End::new(alloc, &[], 2)?;
+    let end = End::new(alloc, (b"", b""), 2)?;
     let (_source, mut sink) = pair_over(alloc, &end)?;
-    let piece = pattern(alloc, 200_000)?;
+    let piece = PATTERN.repeat(alloc, 3_774)?;
     let mut bytes = Vec::from_slice(alloc, b"z")?;
     bytes.extend_from_slice(&piece)?;
     assert_eq!(rt; sink.put(b"z"), Ok(()));
     assert_eq!(rt; sink.put(&piece), Ok(()));
-    // A write for what was held, and 49 for the piece: 200,000 bytes are 48 times 4,096 and 3,392.
+    // A write for what was held, and 49 for the piece: 200,022 bytes are 48 times 4,096 and 3,414.
     let mut calls = Vec::from_slice(alloc, b"wf")?;
     for _ in 0..49u32 {
         calls.push(b'w')?;
@@ -95,7 +87,7 @@ fn a_piece_of_several_buffers_is_written_whole(rt: HostRuntime) -> Result<(), Fa
 
 #[test]
 fn interrupts_without_end_are_a_fault(rt: HostRuntime) -> Result<(), Fail> {
-    let end = End::new(rt.alloc(), &[b"a".as_slice()], INTERRUPTS_MAX)?;
+    let end = End::new(rt.alloc(), (b"a", b""), INTERRUPTS_MAX)?;
     let (mut source, mut sink) = pair_over(rt.alloc(), &end)?;
     assert_eq!(rt; sink.put(b"z"), Ok(()));
     assert_eq!(rt; sink.put(b""), Err(Failed));
@@ -103,7 +95,7 @@ fn interrupts_without_end_are_a_fault(rt: HostRuntime) -> Result<(), Fail> {
     // The run is over for one call, the write; the flush is interrupted again.
     assert_eq!(rt; sink.put(b""), Err(Failed));
     assert!(rt; end.has_seen(b"w", b"z"));
-    end.set_interrupts(0);
+    end.end_interrupts();
     assert_eq!(rt; source.take(&mut [0; 1]), Ok(1));
     assert!(rt; end.has_seen(b"wfr", b"z"));
     Ok(())

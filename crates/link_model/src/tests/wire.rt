@@ -1,4 +1,6 @@
 //! A wire: what its far end sends comes to a reader, and what is written to it is kept.
+ghost use Rattle.std.specs.Prelude.{◌≤◌, length};
+
 use crate::filling::copy_front;
 use std::alloc::Global;
 use std::cell::RefCell;
@@ -10,8 +12,11 @@ use std::test::Fail;
 /// What the two ends of a wire have seen.
 #[derive(Drop)]
 pub struct Wire {
-    /// What is still to be read, the last piece first.
-    pieces: Vec<Vec<u8>>,
+    /// What the far end sends, in two pieces.
+    first: Vec<u8>,
+    second: Vec<u8>,
+    /// How many reads came.
+    reads: u32,
     /// Each call that was not interrupted: `r` for a read, `w` for a write, `f` for a flush.
     calls: Vec<u8>,
     written: Vec<u8>,
@@ -30,6 +35,35 @@ pub struct End {
 }
 
 impl Wire {
+    fn new(alloc: Global, pieces: (&[u8], &[u8]), interrupts: u32) -> Result<Wire, Fail> {
+        let (first, second) = pieces;
+        let first = Vec::from_slice(alloc, first)?;
+        let second = Vec::from_slice(alloc, second)?;
+        Ok(Wire {
+            first,
+            second,
+            reads: 0,
+            calls: Vec::new(alloc),
+            written: Vec::new(alloc),
+            write_max: 4_096,
+            interrupts,
+            interrupted: 0,
+            is_broken: false,
+        })
+    }
+
+    /// Gives the next piece.
+    fn give(&mut self, into: &mut [u8]) -> usize
+        ensures { result ≤ length into.new }
+    {
+        self.reads = self.reads.saturating_add(1);
+        match self.reads {
+            1 => copy_front(&self.first, into),
+            2 => copy_front(&self.second, into),
+            _ => 0,
+        }
+    }
+
     /// Notes a call, unless it is interrupted or the wire is broken.
     fn call(&mut self, name: u8) -> io::Result<()> {
         if self.interrupted < self.interrupts {
@@ -51,10 +85,7 @@ impl Read for End {
             return Err(io::Error::from(ErrorKind::Other));
         };
         wire.call(b'r')?;
-        match wire.pieces.pop() {
-            Some(piece) => Ok(copy_front(&piece, into)),
-            None => Ok(0),
-        }
+        Ok(wire.give(into))
     }
 }
 
@@ -79,21 +110,9 @@ impl Write for End {
 }
 
 impl End {
-    /// A wire whose far end sends these pieces, and whose calls are each interrupted so often first.
-    pub fn new(alloc: Global, pieces: &[&[u8]], interrupts: u32) -> Result<End, Fail> {
-        let mut all = Vec::new(alloc);
-        for piece in pieces.iter().rev() {
-            all.push(Vec::from_slice(alloc, piece)?)?;
-        }
-        let wire = Wire {
-            pieces: all,
-            calls: Vec::new(alloc),
-            written: Vec::new(alloc),
-            write_max: 4_096,
-            interrupts,
-            interrupted: 0,
-            is_broken: false,
-        };
+    /// A wire whose far end sends these two pieces, and whose calls are each interrupted so often first.
+    pub fn new(alloc: Global, pieces: (&[u8], &[u8]), interrupts: u32) -> Result<End, Fail> {
+        let wire = Wire::new(alloc, pieces, interrupts)?;
         Ok(End {
             wire: Rc::new(alloc, RefCell::new(wire))?,
         })
@@ -113,10 +132,10 @@ impl End {
         }
     }
 
-    /// Lets each call be interrupted so often first.
-    pub fn set_interrupts(&self, interrupts: u32) {
+    /// Lets no call be interrupted any more.
+    pub fn end_interrupts(&self) {
         if let Ok(mut wire) = self.wire.try_borrow_mut() {
-            wire.interrupts = interrupts;
+            wire.interrupts = 0;
         }
     }
 

@@ -8,4 +8,6 @@ returns-in_default-clause-bytes g c =
 
 pub returns-clause-bytes : goal.returns-clause-bytes
 returns-clause-bytes g c =
-    Gives-all _ _ c.flush_all.result c.args.piece.now (given-through _ _ c.args.self.now.passed c.args.self.now.held.items _ c.requires (Appends-Keeps _ _ _ _ c.in-Ok.ensures.bytes c.flush_all.ensures.bytes))
+    Gives-all _ _ c.flush_all.result c.args.piece.now
+    (given-through _ _ c.args.self.now.passed c.args.self.now.held.items _ c.requires
+    (Appends-Keeps _ _ _ _ c.in-Ok.ensures.bytes c.flush_all.ensures.bytes))
