@@ -1,4 +1,4 @@
--- The fold over the anchors gives the greatest one that is not above the key. To know: `cover-is`.
+-- The fold over the anchors gives the greatest one that is not above the key. To know: `cover-is`, `better-is`.
 use Rattle.std.proofs.Common.{◌≡◌, ℕ, zero, suc, cond, ◌&&◌, List, [], ◌∷◌, refl, sym, ap, ◌∙◌, subst, ◌⊎◌, inl, inr}
 use Rattle.std.specs.Prelude.{Some, slice_get}
 use Rattle.std.specs.Ordering.{is_lt, is_le}
@@ -12,13 +12,13 @@ use Rattle.meta_trie.proofs.PrefixLemmas.{at_most-trans, at_most-both, not-below
 use Rattle.rdb_base.proofs.PlaceLemmas.{some_injective}
 
 -- what the better one of two is
-record Better (key : List ℕ) (best next found : Anchored) : Type 0 where
+pub record Better (key : List ℕ) (best next found : Anchored) : Type 0 where
   pub one : (found ≡ best) ⊎ (found ≡ next)
   pub fits : AtMost found.anchor key
   pub mine : AtMost best.anchor found.anchor
   pub theirs : AtMost next.anchor key → AtMost next.anchor found.anchor
 
-better-is : (key : List ℕ) (best next : Anchored) → AtMost best.anchor key → Better key best next (better key best next)
+pub better-is : (key : List ℕ) (best next : Anchored) → AtMost best.anchor key → Better key best next (better key best next)
 better-is key best next fits = by (key_cmp next.anchor key) refl (key_cmp best.anchor next.anchor) refl
   where
     kept : (AtMost next.anchor key → AtMost next.anchor best.anchor) → Better key best next best

@@ -63,7 +63,7 @@ module _ (leaves : List LeafEntry) (table mid now : Table) (r : Ready) (leaf : �
       → ((q : List ℕ) → ((n : ℕ) → r.len < n → n ≤ length anchor → q ≡ take n anchor → ⊥) → node_at now q ≡ node_at mid q)
       → TrieStands (all ++ record { anchor = anchor; leaf = leaf } ∷ []) (previouses_with (previouses leaves) (next_at (nexts leaves) r.previous) r.previous) (node_at now)
   entered-stands grown1 others1 begun2 others2 =
-      stands-after all (previouses leaves) (previouses_with (previouses leaves) (next_at (nexts leaves) r.previous) r.previous) (node_at table) (node_at now) a h fresh ready.short r.previous ready.best.0 last-ready
+      stands-after all (previouses leaves) (previouses_with (previouses leaves) (next_at (nexts leaves) r.previous) r.previous) (node_at table) (node_at now) a h fresh r.previous ready.best.0 last-ready
       (previous-new all (previouses leaves) (nexts leaves) (node_at table) h n a fresh r.previous ready.best.0 last-ready long_previous long_next)
       (previous-moved all (previouses leaves) (nexts leaves) (node_at table) h n a fresh r.previous ready.best.0 last-ready long_previous long_next)
       entered

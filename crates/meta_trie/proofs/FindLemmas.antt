@@ -2,7 +2,6 @@
 use Rattle.std.proofs.Common.{◌≡◌, ℕ, zero, suc, ◌<◌, ◌≤◌, true, false, List, [], ◌∷◌, ◌++◌, length, take, drop, get_or, refl, sym, ap, ◌∙◌, subst, arith, ◌⊎◌, inl, inr}
 use Rattle.std.specs.Prelude.{Option, Some, None, is_some, slice_get, slice_index}
 use Rattle.std.proofs.lemmas.List.{append_assoc, append-nil, length-append}
-use Rattle.rdb_base.specs.declared.limits.TheConstants.{KEY_MAX}
 use Rattle.meta_trie.specs.Tries.{Anchored, root, cover, deepest}
 use Rattle.meta_trie.specs.declared.node.Node.{Node}
 use Rattle.meta_trie.specs.declared.leaf_entry.LeafEntry.{LeafEntry}
@@ -68,15 +67,8 @@ module _ (all : List Anchored) (previous : List ℕ) (at : List ℕ → Option N
           let least = (h.nodes (take n key) node e).least in
           known (at (take m key)) (h.there node.least least.0 (take m key) least.1.pick (begins-trans (take m key) (take n key) least.0.anchor (begins-take m n key le) least.1.begins))
 
-  pub next-room : (p : List ℕ) (n : Node) (d : ℕ) → at p ≡ Some n → has_next n.nexts d ≡ true → length p < KEY_MAX
-  next-room p n d is has =
-      let some = (h.nodes p n is).next d has in
-      let short = h.short some.0 some.1 some.2 in
-      let long : length some.1.anchor ≡ length ((p ++ d ∷ []) ++ some.3.0) = ap length some.3.1 in
-      omega (arith, short, long, length-append (p ++ d ∷ []) some.3.0, length-append p (d ∷ []))
-
-  pub next-there : (p : List ℕ) (n : Node) (d : ℕ) → at p ≡ Some n → has_next n.nexts d ≡ true → at (p ++ d ∷ []) ≡ None → ⊥
-  next-there p n d is has = let some = (h.nodes p n is).next d has in h.there some.0 some.1 (p ++ d ∷ []) some.2 some.3
+  pub next-there : (p : List ℕ) (n : Node) (d : ℕ) → at p ≡ Some n → has_next n.nexts d ≡ true → is_some (at (p ++ d ∷ [])) ≡ true
+  next-there p n d is has = let some = (h.nodes p n is).next d has in known (at (p ++ d ∷ [])) (h.there some.0 some.1 (p ++ d ∷ []) some.2 some.3)
 
   -- what follows the front is not there
   abbrev pub Gone : List ℕ → List ℕ → Type 0

@@ -13,3 +13,5 @@ pub mod PopLemmas
 pub mod EnterLemmas
 pub mod SameLemmas
 pub mod RootLemmas
+pub mod AmongLemmas
+pub mod ReadyLemmas

@@ -1,6 +1,5 @@
 -- The trie of the empty anchor alone. To know: `first-trie`.
 use Rattle.std.proofs.Common.{◌≡◌, ℕ, zero, suc, ◌≤◌, List, [], ◌∷◌, ◌++◌, length, refl, sym, ap, ◌∙◌, subst, arith, ◌⊎◌, inl, inr}
-use Rattle.rdb_base.specs.declared.limits.TheConstants.{KEY_MAX}
 use Rattle.std.specs.Prelude.{Option, Some, None}
 use Rattle.meta_trie.specs.Tries.{Anchored, root}
 use Rattle.meta_trie.specs.declared.node.Node.{Node}
@@ -38,7 +37,6 @@ first-stands table m begun first = record {
   there = there;
   nodes = nodes;
   before = λ j b e ne. absurd (ne (ap (λ (x : Anchored). x.anchor) (sym (root_is j b e).1)));
-  short = λ j b e. subst (λ (x : Anchored). length x.anchor ≤ KEY_MAX) (root_is j b e).1 (omega arith);
   distinct = λ i j a b e f g. (root_is i a e).0 ∙ sym (root_is j b f).0;
 }
   where

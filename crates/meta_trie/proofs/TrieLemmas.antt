@@ -2,7 +2,6 @@
 use Rattle.std.proofs.Common.{◌≡◌, ℕ, ◌≤◌, Bool, true, false, cond, List, [], ◌∷◌, ◌++◌, length, refl, sym, ap, ◌∙◌, subst, ◌⊎◌, inl, inr, eq-eqb}
 use Rattle.std.specs.Prelude.{Option, Some, None, slice_get, slice_index, ◌==◌, if◌then◌else◌}
 use Rattle.std.proofs.lemmas.Bool.{eqb-true}
-use Rattle.rdb_base.specs.declared.limits.TheConstants.{KEY_MAX}
 use Rattle.meta_trie.specs.Tries.{Anchored}
 use Rattle.meta_trie.specs.declared.node.Node.{Node}
 use Rattle.meta_trie.specs.Nodes.{Pick, Begins, Last, NodeStands, TrieStands}
@@ -13,7 +12,7 @@ some_none : (a : Node) → Some a ≡ None → ⊥
 some_none a e = absurd cc
 
 module _ (all : List Anchored) (previous after : List ℕ) (at now : List ℕ → Option Node) (a : Anchored) (h : TrieStands all previous at)
-    (new : (j : ℕ) (b : Anchored) → Pick all j b → b.anchor ≡ a.anchor → ⊥) (short : length a.anchor ≤ KEY_MAX)
+    (new : (j : ℕ) (b : Anchored) → Pick all j b → b.anchor ≡ a.anchor → ⊥)
     (i : ℕ) (x : Anchored) (pred : Last all a.anchor i x)
     (mine : slice_index after (length all) ≡ i)
     (theirs : (j : ℕ) (b : Anchored) → Pick all j b → (b.anchor ≡ [] → ⊥) → slice_index after j ≡ (if slice_index previous j == i then length all else slice_index previous j))
@@ -61,14 +60,9 @@ module _ (all : List Anchored) (previous after : List ℕ) (at now : List ℕ �
     there = there_after;
     nodes = nodes_after;
     before = before_after;
-    short = λ j b e. short_of j b (get_snoc all a b j e);
     distinct = λ j k b c e f g. apart j k b c g (get_snoc all a b j e) (get_snoc all a c k f);
   }
     where
-      short_of : (j : ℕ) (b : Anchored) → Pick all j b ⊎ ((j ≡ length all) × (a ≡ b)) → length b.anchor ≤ KEY_MAX
-      short_of j b (inl e) = h.short j b e
-      short_of j b (inr e) = subst (λ (y : Anchored). length y.anchor ≤ KEY_MAX) e.1 short
-
       apart : (j k : ℕ) (b c : Anchored) → b.anchor ≡ c.anchor → Pick all j b ⊎ ((j ≡ length all) × (a ≡ b)) → Pick all k c ⊎ ((k ≡ length all) × (a ≡ c)) → j ≡ k
       apart j k b c g (inl e) (inl f) = h.distinct j k b c e f g
       apart j k b c g (inl e) (inr f) = absurd (new j b e (g ∙ ap (λ (y : Anchored). y.anchor) (sym f.1)))

@@ -1,7 +1,6 @@
 -- What the nodes of a trie, one for each prefix of an anchor, know of its anchors.
 use Rattle.std.specs.Int.{bit_at}
 use Rattle.std.specs.Prelude.{◌≡◌, ℕ, ◌<◌, ◌-◌, ◌/◌, ◌%◌, ◌==◌, Bool, true, false, ◌⊎◌, List, [], ◌∷◌, ◌++◌, Option, Some, None, slice_get, slice_index, get_or, length, ◌≤◌}
-use Rattle.rdb_base.specs.declared.limits.TheConstants.{KEY_MAX}
 use Rattle.std.specs.declared.cmp.Ordering.TheVariants.{Less}
 use Rattle.rdb_base.specs.Order.{key_cmp}
 use Rattle.meta_trie.specs.Tries.{Anchored}
@@ -79,12 +78,11 @@ NextBelow n rest None = (c : ℕ) (more : List ℕ) → rest ≡ c ∷ more → 
 NextBelow n rest (Some d) = (c : ℕ) × (more : List ℕ) × (rest ≡ c ∷ more) × (d < c) × (has_next n.nexts d ≡ true) × ((e : ℕ) → d < e → e < c → has_next n.nexts e ≡ false)
 
 -- Every prefix of an anchor has a node, and no other string has one; each anchor but the empty one knows the one below it;
--- anchors are no longer than keys, and each is there once.
+-- and each is there once.
 pub record TrieStands (all : List Anchored) (previous : List ℕ) (at : List ℕ → Option Node) : Type 0 where
   pub there : (j : ℕ) (b : Anchored) (p : List ℕ) → Pick all j b → Begins p b.anchor → at p ≡ None → ⊥
   pub nodes : (p : List ℕ) (n : Node) → at p ≡ Some n → NodeStands all p n
   pub before : (j : ℕ) (b : Anchored) → Pick all j b → (b.anchor ≡ [] → ⊥) → (a : Anchored) × Last all b.anchor (slice_index previous j) a
-  pub short : (j : ℕ) (b : Anchored) → Pick all j b → length b.anchor ≤ KEY_MAX
   pub distinct : (i j : ℕ) (a b : Anchored) → Pick all i a → Pick all j b → a.anchor ≡ b.anchor → i ≡ j
 
 -- each anchor knows the one above it

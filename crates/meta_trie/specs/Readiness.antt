@@ -1,6 +1,5 @@
 -- All that an anchor needs, made before it is added.
 use Rattle.std.specs.Prelude.{◌≡◌, ℕ, ◌+◌, ◌-◌, ◌<◌, ◌≤◌, true, List, length, take, map, Option, Some, None, is_some}
-use Rattle.rdb_base.specs.declared.limits.TheConstants.{KEY_MAX}
 use Rattle.meta_trie.specs.Tries.{Anchored, deepest, nodes_of}
 use Rattle.meta_trie.specs.Leaves.{all_of, rest_of, previouses, nexts, BeginsWithRoot}
 use Rattle.meta_trie.specs.Nodes.{Best, TrieStands, NextsStand}
@@ -14,7 +13,6 @@ use Rattle.meta_trie.specs.declared.ready.Ready.{Ready}
 -- what was made fits the trie as it is: which prefixes have nodes, the anchor below, the prefixes to come, and room for their nodes
 pub record IsReady (leaves : List LeafEntry) (table : Table) (ready : Ready) : Type 0 where
   pub within : ready.len ≤ length ready.anchor.items
-  pub short : length ready.anchor.items ≤ KEY_MAX
   pub there : (n : ℕ) → n ≤ ready.len → is_some (node_at table (take n ready.anchor.items)) ≡ true
   pub absent : (n : ℕ) → ready.len < n → n ≤ length ready.anchor.items → node_at table (take n ready.anchor.items) ≡ None
   pub best : (a : Anchored) × Best (all_of leaves) ready.anchor.items ready.previous a

@@ -2,7 +2,8 @@
 //!
 //! 1. The nodes of its prefixes that have one learn of it; its other prefixes get nodes.
 //! 2. It goes into the list of anchors, between its neighbours in the order of keys.
-ghost use Rattle.std.specs.Prelude.{◌≡◌, ◌≤◌, ◌<◌, ◌+◌, ◌-◌, ◌++◌, ◌∷◌, [], ℕ, Option, Some, None, is_some, true, length, map, take, vec_len, vec_capacity, slice_set};
+ghost use Rattle.std.specs.Prelude.{◌≡◌, ◌≤◌, ◌<◌, ◌+◌, ◌-◌, ◌++◌, ◌∷◌, [], ℕ, Option, Some, None, is_some, true};
+ghost use Rattle.std.specs.Prelude.{length, map, take, vec_len, vec_capacity, slice_set};
 ghost use Rattle.std.specs.Ordering.{is_lt};
 ghost use Rattle.rdb_base.specs.Order.{key_cmp};
 ghost use Rattle.meta_trie.specs.Growths.{first_of, fronts_of, GrownAt, BegunAt, KeepsBut};
@@ -23,7 +24,8 @@ pub(crate) fn enter(leaves: &mut Vec<LeafEntry>, table: &mut Table, ready: Ready
     requires ready { IsReady leaves.old.items table.old ready }
     requires fresh { (j : ℕ) (b : _) → Pick (all_of leaves.old.items) j b → b.anchor ≡ ready.anchor.items → ⊥ }
     requires room { vec_len leaves.old < vec_capacity leaves.old }
-    ensures added { all_of leaves.new.items ≡ all_of leaves.old.items ++ record { anchor = ready.anchor.items; leaf = leaf } ∷ [] }
+    ensures added { all_of leaves.new.items
+        ≡ all_of leaves.old.items ++ record { anchor = ready.anchor.items; leaf = leaf } ∷ [] }
     ensures trie { IsTrie leaves.new.items table.new }
 {
     let Ready {
@@ -45,7 +47,8 @@ fn grow_all(table: &mut Table, leaves: &[LeafEntry], anchor: &[u8], len: usize, 
     requires stands { (p : _) (n : _) → node_at table.old p ≡ Some n → NodeStands (all_of leaves.now) p n }
     requires next { place ≡ length leaves.now }
     ensures grown { (n : ℕ) → n ≤ len → GrownAt (all_of leaves.now) anchor.now n table.new }
-    ensures others { (p : _) → ((n : ℕ) → n ≤ len → p ≡ take n anchor.now → ⊥) → node_at table.new p ≡ node_at table.old p }
+    ensures others { (p : _) → ((n : ℕ) → n ≤ len → p ≡ take n anchor.now → ⊥)
+        → node_at table.new p ≡ node_at table.old p }
     ensures count { count_of table.new ≡ count_of table.old }
     ensures room { room_of table.old ≤ room_of table.new }
 {
@@ -58,7 +61,8 @@ fn grow_all(table: &mut Table, leaves: &[LeafEntry], anchor: &[u8], len: usize, 
 fn grow_at(table: &mut Table, leaves: &[LeafEntry], anchor: &[u8], len: usize, place: usize)
     requires within { len ≤ length anchor.now }
     requires there { is_some (node_at table.old (take len anchor.now)) ≡ true }
-    requires stands { (n : _) → node_at table.old (take len anchor.now) ≡ Some n → NodeStands (all_of leaves.now) (take len anchor.now) n }
+    requires stands { (n : _) → node_at table.old (take len anchor.now) ≡ Some n
+        → NodeStands (all_of leaves.now) (take len anchor.now) n }
     requires next { place ≡ length leaves.now }
     ensures grown { GrownAt (all_of leaves.now) anchor.now len table.new }
     ensures others { KeepsBut (take len anchor.now) table.old table.new }
@@ -83,7 +87,8 @@ fn begin_all(table: &mut Table, anchor: &[u8], len: usize, place: usize, mut pre
     requires absent { (n : ℕ) → len < n → n ≤ length anchor.now → node_at table.old (take n anchor.now) ≡ None }
     requires room { length anchor.now - len ≤ room_of table.old }
     ensures begun { (n : ℕ) → len < n → n ≤ length anchor.now → BegunAt anchor.now n place table.new }
-    ensures others { (p : _) → ((n : ℕ) → len < n → n ≤ length anchor.now → p ≡ take n anchor.now → ⊥) → node_at table.new p ≡ node_at table.old p }
+    ensures others { (p : _) → ((n : ℕ) → len < n → n ≤ length anchor.now → p ≡ take n anchor.now → ⊥)
+        → node_at table.new p ≡ node_at table.old p }
     ensures count { count_of table.new ≡ count_of table.old + (length anchor.now - len) }
 {
     let mut left = anchor.len() - len;
@@ -134,8 +139,10 @@ fn link_in(leaves: &mut Vec<LeafEntry>, anchor: Vec<u8>, leaf: u32, previous: us
     requires previous { previous < length leaves.old.items }
     requires next { (k : ℕ) → next_at (nexts leaves.old.items) previous ≡ Some k → k < length leaves.old.items }
     requires room { vec_len leaves.old < vec_capacity leaves.old }
-    ensures added { all_of leaves.new.items ≡ all_of leaves.old.items ++ record { anchor = anchor.items; leaf = leaf } ∷ [] }
-    ensures previouses { previouses leaves.new.items ≡ previouses_with (previouses leaves.old.items) (next_at (nexts leaves.old.items) previous) previous }
+    ensures added { all_of leaves.new.items
+        ≡ all_of leaves.old.items ++ record { anchor = anchor.items; leaf = leaf } ∷ [] }
+    ensures previouses { previouses leaves.new.items
+        ≡ previouses_with (previouses leaves.old.items) (next_at (nexts leaves.old.items) previous) previous }
     ensures nexts { nexts leaves.new.items ≡ nexts_with (nexts leaves.old.items) previous }
 {
     let place = leaves.len();

@@ -1,11 +1,16 @@
 //! The anchor that a key belongs to.
 //!
 //! 1. Of the prefixes of the key that have a node, the longest is found by halves over the lengths.
-//! 2. Where one of its next bytes is below the key's, the anchor is the greatest that goes on with the greatest such byte.
-//! 3. Else it is the prefix itself, where that is an anchor, or the anchor before the least one that begins with the prefix.
-ghost use Rattle.std.specs.Prelude.{◌≡◌, ◌≤◌, ◌<◌, ◌+◌, ◌^◌, ◌++◌, ◌∷◌, [], ℕ, true, false, is_some, length, take};
+//! 2. Where one of its next bytes is below the key's, the anchor is the greatest that goes on with the greatest such
+//!    byte.
+//! 3. Else it is the prefix itself, where that is an anchor, or the anchor before the least one that begins with the
+//!    prefix.
+ghost use Rattle.std.specs.Prelude.{◌≡◌, ◌≤◌, ◌<◌, ◌+◌, ◌^◌, ◌++◌, ◌∷◌, ◌&&◌, [], ℕ};
+ghost use Rattle.std.specs.Prelude.{Some, true, false, is_some, length, take};
 ghost use Rattle.std.specs.Option.{option_copied};
+ghost use Rattle.std.specs.Ordering.{is_le, is_lt};
 ghost use Rattle.rdb_base.specs.Halvings.{IsLogarithmic};
+ghost use Rattle.rdb_base.specs.Order.{key_cmp};
 ghost use Rattle.rdb_base.specs.declared.limits.TheConstants.{KEY_MAX};
 ghost use Rattle.meta_trie.specs.Leaves.{all_of, previouses, BeginsWithRoot, rest_of};
 ghost use Rattle.meta_trie.specs.Tables.{node_at};
@@ -15,7 +20,7 @@ ghost use Rattle.meta_trie.specs.Nodes.{TrieStands, Best, NextBelow};
 use crate::leaf_entry::LeafEntry;
 use crate::node::Node;
 use crate::table::Table;
-use rdb_base::{KEY_MAX, Steps};
+use rdb_base::{KEY_MAX, Steps, compare_bytes};
 use std::sync::ledger::Ledger;
 
 /// The leaf of the greatest anchor that is not above a key.
@@ -54,10 +59,7 @@ pub(crate) fn holder<L: Ledger>(
         return 0;
     };
     match next_below(node, rest) {
-        Some(byte) => match child(table, front, byte, steps) {
-            Some(child) => child.greatest,
-            None => 0,
-        },
+        Some(byte) => in_branch(leaves, table, key, front, byte, steps),
         None => {
             if node.own {
                 node.least
@@ -68,10 +70,60 @@ pub(crate) fn holder<L: Ledger>(
     }
 }
 
+/// The place of the greatest anchor that is not above a key, where that goes on from a front of the key with this byte.
+fn in_branch<L: Ledger>(
+    leaves: &[LeafEntry],
+    table: &Table,
+    key: &[u8],
+    front: &[u8],
+    byte: u8,
+    steps: &mut Steps<L>,
+) -> usize
+    requires root { BeginsWithRoot (all_of leaves.now) }
+    requires there { is_some (node_at table.now (front.now ++ byte ∷ [])) ≡ true }
+    requires child { (m : _) → node_at table.now (front.now ++ byte ∷ []) ≡ Some m
+        → (a : Anchored) × Best (all_of leaves.now) key.now m.greatest a }
+    ensures best { (a : Anchored) × Best (all_of leaves.now) key.now result a }
+    ensures rises { steps.old ≤ steps.new }
+    ensures cost { steps.new ≤ steps.old + 1 }
+{
+    // An anchor that is longer than any key is never made of a key, and `child` has no memory for it.
+    if front.len() >= KEY_MAX {
+        return among_all(leaves, key);
+    }
+    match child(table, front, byte, steps) {
+        Some(child) => child.greatest,
+        None => 0,
+    }
+}
+
+/// The place of the greatest anchor that is not above a key, by a look at each.
+fn among_all(leaves: &[LeafEntry], key: &[u8]) -> usize
+    requires root { BeginsWithRoot (all_of leaves.now) }
+    ensures best { (a : Anchored) × Best (all_of leaves.now) key.now result a }
+{
+    let mut best = 0;
+    'anchors: for place in 0..leaves.len() {
+        let anchor = leaves[place].anchor.as_slice();
+        if is_better(key, leaves[best].anchor.as_slice(), anchor) {
+            best = place;
+        }
+    }
+    best
+}
+
+/// Whether the next anchor is not above the key, and above the best one so far.
+fn is_better(key: &[u8], best: &[u8], next: &[u8]) -> bool
+    ensures { result ≡ is_le (key_cmp next.now key.now) && is_lt (key_cmp best.now next.now) }
+{
+    compare_bytes(next, key).is_le() && compare_bytes(best, next).is_lt()
+}
+
 /// The length of the longest prefix of a key that has a node.
 pub(crate) fn longest<L: Ledger>(table: &Table, key: &[u8], steps: &mut Steps<L>) -> usize
     requires first { is_some (node_at table.now []) ≡ true }
-    requires closed { (m n : ℕ) → m ≤ n → is_some (node_at table.now (take n key.now)) ≡ true → is_some (node_at table.now (take m key.now)) ≡ true }
+    requires closed { (m n : ℕ) → m ≤ n → is_some (node_at table.now (take n key.now)) ≡ true
+        → is_some (node_at table.now (take m key.now)) ≡ true }
     ensures within { result ≤ length key.now }
     ensures there { is_some (node_at table.now (take result key.now)) ≡ true }
     ensures longest { (n : ℕ) → result < n → n ≤ length key.now → is_some (node_at table.now (take n key.now)) ≡ false }

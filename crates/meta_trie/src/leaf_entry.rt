@@ -1,4 +1,5 @@
-/// An anchor with its leaf, and its neighbours in the order of keys. Entries are named by their place in the order of adding.
+/// An anchor with its leaf, and its neighbours in the order of keys. Entries are named by their place in the order of
+/// adding.
 #[derive(Drop)]
 pub(crate) struct LeafEntry {
     pub(crate) anchor: Vec<u8>,

@@ -1,8 +1,9 @@
 //! Which leaf a key belongs to, by a table of the prefixes of anchors.
 //!
 //! Stands for   anchors with their leaves, in the order of adding (`specs/Tries.antt`, `TrieState`)
-//! Promises     `find` gives the leaf of the greatest anchor that is not above the key (`cover`), by a binary search over
-//!              the lengths of its prefixes; `add` adds one anchor or changes nothing; after `reserve` it cannot fail
+//! Promises     `find` gives the leaf of the greatest anchor that is not above the key (`cover`), by a binary search
+//!              over the lengths of its prefixes; `add` adds one anchor or changes nothing; after `reserve` it cannot
+//!              fail
 //! Goes in      anchors with their leaves; keys
 //! Comes out    leaves; `TrieFull`, exactly where there would be more than `NODES_MAX` nodes
 //! Stands on    rdb_base

@@ -3,8 +3,8 @@ ghost use Rattle.std.specs.Prelude.{◌≡◌, ◌<◌, ◌≤◌, ◌||◌, ◌
 ghost use Rattle.std.specs.Int.{bit_at};
 ghost use Rattle.meta_trie.specs.Nodes.{has_next};
 
-/// The bytes that come next after a prefix. The bits of a word are mirrored: the greatest of its bytes is bit 0, so that
-/// the greatest byte of a word is found by counting zeros.
+/// The bytes that come next after a prefix. The bits of a word are mirrored: the greatest of its bytes is bit 0, so
+/// that the greatest byte of a word is found by counting zeros.
 #[derive(Clone, Copy)]
 pub(crate) struct NextBytes {
     pub(crate) words: [u64; 4],
@@ -29,7 +29,10 @@ impl NextBytes {
 
     /// The greatest of them below a byte.
     pub(crate) fn below(&self, byte: u8) -> Option<u8>
-        ensures { MatchOption result ((c : ℕ) → c < byte → has_next self.now c ≡ false) (λ found. (found < byte) × (has_next self.now found ≡ true) × ((c : ℕ) → found < c → c < byte → has_next self.now c ≡ false)) }
+        ensures { MatchOption result
+            ((c : ℕ) → c < byte → has_next self.now c ≡ false)
+            (λ found. (found < byte) × (has_next self.now found ≡ true)
+            × ((c : ℕ) → found < c → c < byte → has_next self.now c ≡ false)) }
     {
         if byte == 0 {
             None
@@ -40,7 +43,10 @@ impl NextBytes {
 
     /// The greatest of them up to a byte.
     fn at_most(&self, most: u8) -> Option<u8>
-        ensures { MatchOption result ((c : ℕ) → c ≤ most → has_next self.now c ≡ false) (λ found. (found ≤ most) × (has_next self.now found ≡ true) × ((c : ℕ) → found < c → c ≤ most → has_next self.now c ≡ false)) }
+        ensures { MatchOption result
+            ((c : ℕ) → c ≤ most → has_next self.now c ≡ false)
+            (λ found. (found ≤ most) × (has_next self.now found ≡ true)
+            × ((c : ℕ) → found < c → c ≤ most → has_next self.now c ≡ false)) }
     {
         let mut word = most / 64;
         let mut from = 63 - most % 64;
@@ -61,7 +67,10 @@ impl NextBytes {
 /// The least place, from one on, at which a word has a bit.
 fn first_from(word: u64, from: u8) -> Option<u8>
     requires { from < 64 }
-    ensures { MatchOption result ((i : ℕ) → from ≤ i → i < 64 → bit_at word i ≡ 0) (λ place. (from ≤ place) × (place < 64) × (bit_at word place ≡ 1) × ((i : ℕ) → from ≤ i → i < place → bit_at word i ≡ 0)) }
+    ensures { MatchOption result
+        ((i : ℕ) → from ≤ i → i < 64 → bit_at word i ≡ 0)
+        (λ place. (from ≤ place) × (place < 64) × (bit_at word place ≡ 1)
+        × ((i : ℕ) → from ≤ i → i < place → bit_at word i ≡ 0)) }
 {
     let left = word & u64::MAX << from;
     if left == 0 {

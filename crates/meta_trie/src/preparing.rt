@@ -1,11 +1,11 @@
 //! All that an anchor needs, made before anything is changed. Only room is taken.
-ghost use Rattle.std.specs.Prelude.{◌≡◌, ◌≤◌, ◌<◌, ◌-◌, ℕ, None, Some, true, is_some, length, map, take, IfOk, OnOk, IsOk, vec_len, vec_capacity};
-ghost use Rattle.rdb_base.specs.declared.limits.TheConstants.{KEY_MAX};
+ghost use Rattle.std.specs.Prelude.{◌≡◌, ◌≤◌, ◌<◌, ◌-◌, ℕ, None, Some, true, is_some, length, map, take};
+ghost use Rattle.std.specs.Prelude.{IfOk, OnOk, OnErr, IsOk, IsTrue, ◌↔◌, vec_len, vec_capacity};
 ghost use Rattle.meta_trie.specs.Growths.{fronts_of};
 ghost use Rattle.meta_trie.specs.Leaves.{all_of, rest_of};
 ghost use Rattle.meta_trie.specs.Nodes.{Best};
 ghost use Rattle.meta_trie.specs.Readiness.{IsTrie, IsReady, MayBeReady, anchor_of};
-ghost use Rattle.meta_trie.specs.Tables.{node_at, count_of};
+ghost use Rattle.meta_trie.specs.Tables.{node_at, count_of, room_of};
 ghost use Rattle.meta_trie.specs.Tries.{Anchored, RoomAnswer, deepest};
 
 use crate::finding::{holder, longest};
@@ -19,77 +19,75 @@ use std::alloc::Global;
 use std::marker::Brand;
 use std::sync::ledger::{Blank, Ledger};
 
-/// What was kept for an anchor, or else all that it needs, made now.
-pub(crate) fn ready_for(
+/// Makes all that an anchor needs, where that is not there yet. Refused, what was made for another anchor stays.
+pub(crate) fn make_ready(
     alloc: Global,
     leaves: &mut Vec<LeafEntry>,
     table: &mut Table,
-    kept: Option<Ready>,
+    ready: &mut Option<Ready>,
     anchor: &[u8],
-) -> Result<Ready, TrieError>
+) -> Result<(), TrieError>
     requires trie { IsTrie leaves.old.items table.old }
-    requires short { length anchor.now ≤ KEY_MAX }
-    requires kept { MayBeReady leaves.old.items (vec_len leaves.old < vec_capacity leaves.old) table.old kept }
+    requires ready { MayBeReady leaves.old.items (vec_len leaves.old < vec_capacity leaves.old) table.old ready.old }
     ensures answer { RoomAnswer result (rest_of (all_of leaves.old.items)) anchor.now }
-    ensures anchor { IfOk result (λ ready. ready.anchor.items ≡ anchor.now) }
-    ensures ready { IfOk result (λ ready. IsReady leaves.old.items table.new ready) }
-    ensures room { OnOk result (vec_len leaves.new < vec_capacity leaves.new) }
     ensures leaves { leaves.new.items ≡ leaves.old.items }
-    ensures table { (p : _) → node_at table.new p ≡ node_at table.old p }
-    ensures count { count_of table.new ≡ count_of table.old }
-    ensures kept { anchor_of kept ≡ Some anchor.now → IsOk result }
+    ensures trie { IsTrie leaves.new.items table.new }
+    ensures ready { MayBeReady leaves.new.items (vec_len leaves.new < vec_capacity leaves.new) table.new ready.new }
+    ensures anchor { OnOk result (anchor_of ready.new ≡ Some anchor.now) }
+    ensures refused { OnErr result (anchor_of ready.new ≡ anchor_of ready.old) }
+    ensures again { anchor_of ready.old ≡ Some anchor.now → IsOk result }
 {
-    match kept {
-        None => prepare(alloc, leaves, table, anchor),
-        Some(ready) => {
-            if ready.anchor.as_slice() == anchor {
-                Ok(ready)
-            } else {
-                prepare(alloc, leaves, table, anchor)
-            }
+    if is_for(ready, anchor) {
+        return Ok(());
+    }
+    match prepare(alloc, leaves, table, anchor) {
+        Ok(made) => {
+            *ready = Some(made);
+            Ok(())
         }
+        Err(error) => Err(error),
+    }
+}
+
+/// Whether this anchor is prepared.
+fn is_for(ready: &Option<Ready>, anchor: &[u8]) -> bool
+    ensures { IsTrue result ↔ (anchor_of ready.now ≡ Some anchor.now) }
+{
+    match ready {
+        None => false,
+        Some(ready) => ready.anchor.as_slice() == anchor,
     }
 }
 
 /// All that an anchor needs: room for its entry and its nodes, the prefixes that get nodes, and the anchor itself.
-pub(crate) fn prepare(
+fn prepare(
     alloc: Global,
     leaves: &mut Vec<LeafEntry>,
     table: &mut Table,
     anchor: &[u8],
 ) -> Result<Ready, TrieError>
     requires trie { IsTrie leaves.old.items table.old }
-    requires short { length anchor.now ≤ KEY_MAX }
     ensures answer { RoomAnswer result (rest_of (all_of leaves.old.items)) anchor.now }
     ensures anchor { IfOk result (λ ready. ready.anchor.items ≡ anchor.now) }
     ensures ready { IfOk result (λ ready. IsReady leaves.old.items table.new ready) }
     ensures room { OnOk result (vec_len leaves.new < vec_capacity leaves.new) }
     ensures leaves { leaves.new.items ≡ leaves.old.items }
+    ensures leaves_room { vec_capacity leaves.old ≤ vec_capacity leaves.new }
     ensures table { (p : _) → node_at table.new p ≡ node_at table.old p }
+    ensures table_room { room_of table.old ≤ room_of table.new }
     ensures count { count_of table.new ≡ count_of table.old }
 {
     let site = survey::<Brand>(leaves.as_slice(), table, anchor, Blank::new(1));
     let missing = anchor.len() - site.len;
     let nodes = table.len();
     if nodes + missing > NODES_MAX {
-        return Err(TrieError::TrieFull {
-            nodes: nodes as u32,
-        });
+        let nodes = nodes as u32;
+        return Err(TrieError::TrieFull { nodes });
     }
-    let reserved: Result<_, _> = table.reserve(missing);
-    let Ok(()) = reserved else {
-        return Err(TrieError::Memory);
-    };
-    let reserved: Result<_, _> = leaves.reserve(1);
-    let Ok(()) = reserved else {
-        return Err(TrieError::Memory);
-    };
-    let Ok(prefixes) = prefixes_of(alloc, anchor, site.len) else {
-        return Err(TrieError::Memory);
-    };
-    let Ok(anchor) = Vec::from_slice(alloc, anchor) else {
-        return Err(TrieError::Memory);
-    };
+    table.reserve(missing)?;
+    leaves.reserve(1)?;
+    let prefixes = prefixes_of(alloc, anchor, site.len)?;
+    let anchor = Vec::from_slice(alloc, anchor)?;
     Ok(Ready {
         anchor,
         len: site.len,
@@ -98,7 +96,8 @@ pub(crate) fn prepare(
     })
 }
 
-/// Where a new anchor stands: how long its longest prefix with a node is, and the place of the greatest anchor below it.
+/// Where a new anchor stands: how long its longest prefix with a node is, and the place of the greatest anchor below
+/// it.
 #[derive(Clone, Copy)]
 struct Site {
     len: usize,
@@ -125,7 +124,8 @@ fn survey<L: Ledger>(leaves: &[LeafEntry], table: &Table, anchor: &[u8], blank: 
 /// The prefixes of an anchor that are longer than a length, the shortest first.
 fn prefixes_of(alloc: Global, anchor: &[u8], len: usize) -> Result<Vec<Vec<u8>>, NoMemory>
     requires within { len ≤ length anchor.now }
-    ensures made { IfOk result (λ prefixes. map (λ v. v.items) prefixes.items ≡ fronts_of anchor.now len (length anchor.now - len)) }
+    ensures made { IfOk result (λ prefixes.
+        map (λ v. v.items) prefixes.items ≡ fronts_of anchor.now len (length anchor.now - len)) }
 {
     let mut prefixes = Vec::with_capacity(alloc, anchor.len() - len)?;
     'fronts: for n in 0..anchor.len() - len {

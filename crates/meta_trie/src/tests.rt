@@ -1,6 +1,5 @@
 //! Worked anchors, the last node that fits, and random anchors beside a plain sorted list.
 ghost use Rattle.std.specs.Prelude.{◌≡◌, ◌<◌, ◌≤◌, ℕ, true, length};
-ghost use Rattle.rdb_base.specs.declared.limits.TheConstants.{KEY_MAX};
 ghost use Rattle.meta_trie.specs.Leaves.{all_of};
 ghost use Rattle.meta_trie.specs.Nodes.{Pick};
 ghost use Rattle.meta_trie.specs.Tries.{Anchored, IsNew, cover};
@@ -51,9 +50,7 @@ fn is_new(trie: &MetaTrie, anchor: &[u8]) -> bool
 }
 
 /// Adds an anchor where it is new, and answers whether it was.
-fn add(alloc: Global, trie: &mut MetaTrie, anchor: &[u8], leaf: u32) -> Result<bool, TrieError>
-    requires { length anchor.now ≤ KEY_MAX }
-{
+fn add(alloc: Global, trie: &mut MetaTrie, anchor: &[u8], leaf: u32) -> Result<bool, TrieError> {
     if !is_new(trie, anchor) {
         return Ok(false);
     }
@@ -99,6 +96,36 @@ fn the_last_node_fits_and_one_more_is_refused(rt: HostRuntime) -> Result<(), Fai
     assert_eq!(rt; add(alloc, &mut trie, &anchor[..1], 2), Err(full));
     assert_eq!(rt; add(alloc, &mut trie, b"cx", 2), Ok(true));
     assert_eq!(rt; leaf_at(&trie, &anchor), 1);
+    Ok(())
+}
+
+#[test]
+fn anchors_longer_than_keys_are_found(rt: HostRuntime) -> Result<(), Fail> {
+    let alloc = rt.alloc();
+    let mut trie = MetaTrie::make(alloc)?;
+    let mut bytes = [b'x'; KEY_MAX + 2];
+    for (last, leaf) in [(b'd', 1), (b'b', 2)] {
+        bytes[KEY_MAX + 1] = last;
+        assert_eq!(rt; add(alloc, &mut trie, &bytes, leaf), Ok(true));
+    }
+    for (last, want) in [(b'a', 0), (b'b', 2), (b'c', 2), (b'd', 1), (b'e', 1)] {
+        bytes[KEY_MAX + 1] = last;
+        assert_eq!(rt; leaf_at(&trie, &bytes), want);
+    }
+    Ok(())
+}
+
+#[test]
+fn a_refused_anchor_leaves_what_was_prepared(rt: HostRuntime) -> Result<(), Fail> {
+    let alloc = rt.alloc();
+    let mut trie = MetaTrie::make(alloc)?;
+    let long = Vec::from_elem(alloc, b'x', 65_536)?;
+    let full = TrieError::TrieFull { nodes: 1 };
+    assert_eq!(rt; trie.reserve(alloc, b"ab"), Ok(()));
+    assert_eq!(rt; trie.reserve(alloc, &long), Err(full));
+    assert!(rt; trie.ready.is_some());
+    assert_eq!(rt; add(alloc, &mut trie, b"ab", 1), Ok(true));
+    assert!(rt; trie.ready.is_none());
     Ok(())
 }
 
@@ -202,8 +229,7 @@ fn all_agree(alloc: Global, trie: &MetaTrie, sorted: &[Known]) -> Result<bool, F
 
 /// Adds an anchor of the plain list.
 fn add_known(alloc: Global, trie: &mut MetaTrie, known: &Known) -> Result<(), Fail> {
-    let anchor = known.anchor.as_slice();
-    if anchor.len() > KEY_MAX || add(alloc, trie, anchor, known.leaf) != Ok(true) {
+    if add(alloc, trie, known.anchor.as_slice(), known.leaf) != Ok(true) {
         return Err("not added")?;
     }
     Ok(())
@@ -216,7 +242,7 @@ fn random_trie(alloc: Global) -> Result<(MetaTrie, Vec<Known>), Fail> {
     let mut state = 1;
     for leaf in 1..2_001 {
         let anchor = random_string(alloc, &mut state)?;
-        if anchor.len() <= KEY_MAX && add(alloc, &mut trie, &anchor, leaf) == Ok(true) {
+        if add(alloc, &mut trie, &anchor, leaf) == Ok(true) {
             keep(alloc, &mut sorted, &anchor, leaf)?;
         }
     }

@@ -1,13 +1,13 @@
-ghost use Rattle.std.specs.Prelude.{◌≡◌, ◌≤◌, ◌<◌, ◌+◌, ◌^◌, ◌++◌, ◌∷◌, [], ℕ, Some, length, OnOk, OnErr, IsOk, IfOk};
+ghost use Rattle.std.specs.Prelude.{◌≡◌, ◌≤◌, ◌<◌, ◌+◌, ◌^◌, ◌++◌, ◌∷◌, [], ℕ, Some};
+ghost use Rattle.std.specs.Prelude.{None, length, OnOk, OnErr, IsOk, IfOk};
 ghost use Rattle.rdb_base.specs.Halvings.{IsLogarithmic};
-ghost use Rattle.rdb_base.specs.declared.limits.TheConstants.{KEY_MAX};
 ghost use Rattle.meta_trie.specs.Tries.{cover, IsNew, RoomAnswer};
 
 use crate::adding::enter;
 use crate::finding::leaf_of;
 use crate::leaf_entry::LeafEntry;
 use crate::node::Node;
-use crate::preparing::{prepare, ready_for};
+use crate::preparing::make_ready;
 use crate::ready::Ready;
 use crate::table::Table;
 use crate::trie_error::TrieError;
@@ -16,7 +16,8 @@ use std::alloc::Global;
 use std::marker::Model;
 use std::sync::ledger::Ledger;
 
-/// Anchors with their leaves, and a table of the prefixes of the anchors. Contracts see the anchors in the order of adding.
+/// Anchors with their leaves, and a table of the prefixes of the anchors. Contracts see the anchors in the order of
+/// adding.
 #[derive(Drop)]
 pub struct MetaTrie {
     pub(crate) leaves: Vec<LeafEntry>,
@@ -34,13 +35,14 @@ impl Model for MetaTrie {
 
     ghost view = { λ t. record { added = rest_of (all_of t.leaves.items); ready = anchor_of t.ready } };
 
-    ghost invariant = { λ t. IsTrie t.leaves.items t.table × MayBeReady t.leaves.items (vec_len t.leaves < vec_capacity t.leaves) t.table t.ready };
+    ghost invariant = { λ t. IsTrie t.leaves.items t.table
+        × MayBeReady t.leaves.items (vec_len t.leaves < vec_capacity t.leaves) t.table t.ready };
 }
 
 impl MetaTrie {
     /// The empty anchor with leaf 0.
     pub fn make(alloc: Global) -> Result<MetaTrie, NoMemory>
-        ensures { IfOk result (λ trie. trie.added ≡ []) }
+        ensures { IfOk result (λ trie. trie ≡ record { added = []; ready = None }) }
     {
         let mut leaves = Vec::new(alloc);
         leaves.push(LeafEntry {
@@ -66,47 +68,53 @@ impl MetaTrie {
         leaf_of(self.leaves.as_slice(), &self.table, key, steps)
     }
 
-    /// Makes all that the next adding of an anchor needs. It is refused where that would be; the anchors stay either way.
-    /// If it is refused, nothing is prepared.
+    /// Makes all that the next adding of an anchor needs. It is refused where that would be. Refused, all stays as it
+    /// was, what was made for another anchor, too.
     pub fn reserve(&mut self, alloc: Global, anchor: &[u8]) -> Result<(), TrieError>
-        requires short { length anchor.now ≤ KEY_MAX }
         ensures answer { RoomAnswer result self.old.added anchor.now }
         ensures same { self.new.added ≡ self.old.added }
         ensures ready { OnOk result (self.new.ready ≡ Some anchor.now) }
+        ensures refused { OnErr result (self.new ≡ self.old) }
+        ensures again { self.old.ready ≡ Some anchor.now → IsOk result }
     {
-        self.ready = None;
-        match prepare(alloc, &mut self.leaves, &mut self.table, anchor) {
-            Ok(ready) => {
-                self.ready = Some(ready);
-                Ok(())
-            }
-            Err(error) => Err(error),
-        }
+        make_ready(
+            alloc,
+            &mut self.leaves,
+            &mut self.table,
+            &mut self.ready,
+            anchor,
+        )
     }
 
-    /// Adds an anchor. `after` is the leaf of the greatest anchor below it. An anchor that was prepared takes no memory.
+    /// Adds an anchor. `after` is the leaf of the greatest anchor below it. For an anchor that was prepared it takes no
+    /// memory. If it succeeds, nothing is prepared any more.
     pub fn add(
         &mut self,
         alloc: Global,
         anchor: &[u8],
         leaf: u32,
-        _after: u32,
+        after: u32,
     ) -> Result<(), TrieError>
-        requires short { length anchor.now ≤ KEY_MAX }
         requires new { IsNew self.old.added anchor.now }
-        requires after { _after ≡ cover self.old.added anchor.now }
+        requires after { after ≡ cover self.old.added anchor.now }
         ensures answer { RoomAnswer result self.old.added anchor.now }
-        ensures added { OnOk result (self.new.added ≡ self.old.added ++ record { anchor = anchor.now; leaf = leaf } ∷ []) }
-        ensures refused { OnErr result (self.new.added ≡ self.old.added) }
+        ensures added { OnOk result (self.new.added
+            ≡ self.old.added ++ record { anchor = anchor.now; leaf = leaf } ∷ []) }
+        ensures spent { OnOk result (self.new.ready ≡ None) }
+        ensures refused { OnErr result (self.new ≡ self.old) }
         ensures ready { self.old.ready ≡ Some anchor.now → IsOk result }
     {
-        let kept = self.ready.take();
-        match ready_for(alloc, &mut self.leaves, &mut self.table, kept, anchor) {
-            Ok(ready) => {
-                enter(&mut self.leaves, &mut self.table, ready, leaf);
-                Ok(())
-            }
-            Err(error) => Err(error),
-        }
+        // The trie finds the lower neighbour itself, by its place among the anchors.
+        let _ = after;
+        make_ready(
+            alloc,
+            &mut self.leaves,
+            &mut self.table,
+            &mut self.ready,
+            anchor,
+        )?;
+        let ready = self.ready.take().unwrap();
+        enter(&mut self.leaves, &mut self.table, ready, leaf);
+        Ok(())
     }
 }

@@ -1,6 +1,6 @@
--- The pairs of a leaf after a put and after a split. To know: `leaf-put`, `leaf-left`, `leaf-right`.
+-- The pairs of a leaf after a put and after a split. To know: `leaf-put`, `leaf-left`, `leaf-right`, `anchor-inside`.
 use Rattle.std.proofs.Common.{◌≡◌, ℕ, zero, suc, ◌+◌, ◌-◌, ◌<◌, ◌≤◌, Bool, true, false, get_or, ◌⊎◌, inl, inr, List, [], ◌∷◌, ◌++◌, length, take, drop, refl, sym, ap, ◌∙◌, subst, arith}
-use Rattle.std.specs.Prelude.{Option, Some, slice_get, if◌then◌else◌}
+use Rattle.std.specs.Prelude.{Option, Some, None, slice_get, if◌then◌else◌}
 use Rattle.std.specs.List.{AllByRecursion}
 use Rattle.std.specs.Ordering.{nat_cmp, ordering_then, is_lt, is_gt}
 use Rattle.std.specs.Cmp.{nat_cmp_is}
@@ -9,7 +9,7 @@ use Rattle.std.proofs.lemmas.List.{take-append-drop}
 use Rattle.rdb_base.specs.Order.{key_cmp}
 use Rattle.rdb_base.specs.Runs.{IsRun, IsBelowAll, AreBelow}
 use Rattle.rdb_base.specs.Levels.{with_pair, pairs_below, pairs_above}
-use Rattle.rdb_base.specs.Ranges.{in_range, NotBelow}
+use Rattle.rdb_base.specs.Ranges.{in_range, IsBelow, NotBelow}
 use Rattle.rdb_base.specs.declared.pair.Pair.{Pair}
 use Rattle.rdb_base.proofs.KeyOrder.{total}
 use Rattle.rdb_base.proofs.Lists.{all-append, all-filter}
@@ -119,6 +119,32 @@ leaf-right low high pairs n last first anchor leaf at is most = record {
   covered = right-covered low high anchor (drop n pairs) (all-drop (λ (p : Pair). in_range low high p.key ≡ true) n pairs leaf.covered) (from-drop pairs n first anchor leaf.rises at (anchor-not_above last.key first.key anchor is));
   most = most;
 }
+
+-- what holds of all holds of the pair at a place
+all-at : (P : Pair → Type 0) (n : ℕ) (xs : List Pair) (p : Pair) → AllByRecursion P xs → slice_get xs n ≡ Some p → P p
+all-at P n [] p all at = absurd cc
+all-at P zero (x ∷ xs) p all at = subst P (same x p at) all.0
+  where
+    same : (x p : Pair) → Some x ≡ Some p → x ≡ p
+    same x p e = cc
+all-at P (suc n) (x ∷ xs) p all at = all-at P n xs p all.1 at
+
+-- what a key below the high bound is not below is below it, too
+below-bound : (high : Option (List ℕ)) (key at : List ℕ) → NotBelow key at → IsBelow high key → IsBelow high at
+below-bound None key at le below = tt
+below-bound (Some high) key at le below = le_lt at key high le below
+
+-- the anchor is above the low bound, and in the range
+pub anchor-inside : (leaf : LeafState) (n m : ℕ) (last first : Pair) (anchor : List ℕ) → IsLeaf leaf → slice_get leaf.pairs n ≡ Some last → slice_get leaf.pairs m ≡ Some first
+    → IsAnchor last.key first.key anchor → (key_cmp leaf.low anchor ≡ Less) × (covers leaf anchor ≡ true)
+anchor-inside leaf n m last first anchor is at next parts =
+    let P : Pair → Type 0 = λ (p : Pair). covers leaf p.key ≡ true in
+    let left = range_from leaf.low leaf.high last.key (all-at P n leaf.pairs last is.covered at) in
+    let right = range_from leaf.low leaf.high first.key (all-at P m leaf.pairs first is.covered next) in
+    let above : key_cmp leaf.low anchor ≡ Less = le_lt leaf.low last.key anchor left.0 parts.above in (
+      above,
+      range_to leaf.low leaf.high anchor (lt_not leaf.low anchor above) (below-bound leaf.high first.key anchor (anchor-not_above last.key first.key anchor parts) right.1),
+    )
 
 -- two neighbours of a run
 pub neighbours : (run : List Pair) (n : ℕ) (last first : Pair) → IsRun run → slice_get run n ≡ Some last → slice_get run (suc n) ≡ Some first → key_cmp last.key first.key ≡ Less

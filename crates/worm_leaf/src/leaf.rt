@@ -1,6 +1,9 @@
-ghost use Rattle.std.specs.Prelude.{◌≡◌, ◌≤◌, ◌<◌, ◌+◌, ◌++◌, ◌⊎◌, ◌==◌, if◌then◌else◌, [], Some, None, IsTrue, ◌↔◌, true, is_some, is_none, length, take, drop, IfOk, vec_len, vec_capacity};
+ghost use Rattle.std.specs.Prelude.{◌≡◌, ◌≤◌, ◌<◌, ◌+◌, ◌++◌, ◌⊎◌, ◌==◌, if◌then◌else◌, [], Some, None, IsTrue};
+ghost use Rattle.std.specs.Prelude.{◌↔◌, true, is_some, is_none, length, take, drop, IfOk, vec_len, vec_capacity};
 ghost use Rattle.std.specs.Option.{option_copied};
+ghost use Rattle.std.specs.declared.cmp.Ordering.TheVariants.{Less};
 ghost use Rattle.rdb_base.specs.Levels.{with_pair};
+ghost use Rattle.rdb_base.specs.Order.{key_cmp};
 ghost use Rattle.rdb_base.specs.Runs.{IsRun, change_at};
 ghost use Rattle.rdb_base.specs.declared.pair.Pair.{Pair};
 ghost use Rattle.worm_leaf.specs.Anchors.{PartsAt};
@@ -30,7 +33,7 @@ pub struct Leaf {
 }
 
 impl Model for Leaf {
-    ghost use Rattle.std.specs.Prelude.{◌≤◌, vec_capacity};
+    ghost use Rattle.std.specs.Prelude.{◌≡◌, vec_capacity};
     ghost use Rattle.worm_leaf.specs.Leaves.{LeafState, IsLeaf, bound};
     ghost use Rattle.worm_leaf.specs.declared.limits.TheConstants.{LEAF_PAIRS_MAX};
 
@@ -38,7 +41,8 @@ impl Model for Leaf {
 
     ghost view = { λ l. record { low = l.low; high = bound l.bounded l.high; pairs = l.pairs.items } };
 
-    ghost invariant = { λ l. IsLeaf (record { low = l.low; high = bound l.bounded l.high; pairs = l.pairs.items }) × (LEAF_PAIRS_MAX ≤ vec_capacity l.pairs) };
+    ghost invariant = { λ l. IsLeaf (record { low = l.low; high = bound l.bounded l.high; pairs = l.pairs.items })
+        × (vec_capacity l.pairs ≡ LEAF_PAIRS_MAX) };
 }
 
 impl Leaf {
@@ -121,7 +125,8 @@ impl Leaf {
     /// Sets a key's change, and answers the old one. There is room, or the key is there.
     pub fn put_reserved(&mut self, pair: Pair) -> Option<Change>
         requires covered { covers self.old pair.key ≡ true }
-        requires room { (length self.old.pairs < LEAF_PAIRS_MAX) ⊎ (is_some (change_at self.old.pairs pair.key) ≡ true) }
+        requires room { (length self.old.pairs < LEAF_PAIRS_MAX)
+            ⊎ (is_some (change_at self.old.pairs pair.key) ≡ true) }
         ensures set { self.new ≡ record self.old { pairs = with_pair self.old.pairs pair } }
         ensures old { result ≡ change_at self.old.pairs pair.key }
     {
@@ -129,13 +134,23 @@ impl Leaf {
     }
 
     /// Splits a full leaf. `LEAF_PAIRS_KEPT` pairs stay, and the others go into an unused leaf. The anchor is the bound
-    /// between both: the shortest prefix of the right one's first key that is above the left one's last key.
+    /// between both: the shortest prefix of the right one's first key that is above the left one's last key. It is
+    /// above the low bound, and in the range.
     pub fn split_into(&mut self, right: &mut Leaf, anchor: &mut Anchor)
         requires full { length self.old.pairs ≡ LEAF_PAIRS_MAX }
         requires unused { right.old ≡ unused }
-        ensures left { self.new ≡ record { low = self.old.low; high = Some anchor.new; pairs = take LEAF_PAIRS_KEPT self.old.pairs } }
-        ensures right { right.new ≡ record { low = anchor.new; high = self.old.high; pairs = drop LEAF_PAIRS_KEPT self.old.pairs } }
+        ensures left { self.new ≡ record {
+          low = self.old.low;
+          high = Some anchor.new;
+          pairs = take LEAF_PAIRS_KEPT self.old.pairs;
+        } }
+        ensures right { right.new ≡ record {
+          low = anchor.new;
+          high = self.old.high;
+          pairs = drop LEAF_PAIRS_KEPT self.old.pairs;
+        } }
         ensures anchor { PartsAt self.old.pairs LEAF_PAIRS_KEPT anchor.new }
+        ensures inside { (key_cmp self.old.low anchor.new ≡ Less) × (covers self.old anchor.new ≡ true) }
     {
         part_at(self.pairs.as_slice(), LEAF_PAIRS_KEPT, anchor);
         move_from(&mut self.pairs, LEAF_PAIRS_KEPT, &mut right.pairs);
@@ -176,11 +191,13 @@ impl Leaf {
 /// Sets a key's change among rising pairs, and answers the old one. There is room, or the key is there.
 fn put_in(pairs: &mut Vec<Pair>, pair: Pair) -> Option<Change>
     requires rises { IsRun pairs.old.items }
-    requires room { (vec_len pairs.old < vec_capacity pairs.old) ⊎ (is_some (change_at pairs.old.items pair.key) ≡ true) }
+    requires room { (vec_len pairs.old < vec_capacity pairs.old)
+        ⊎ (is_some (change_at pairs.old.items pair.key) ≡ true) }
     ensures set { pairs.new.items ≡ with_pair pairs.old.items pair }
     ensures old { result ≡ change_at pairs.old.items pair.key }
-    ensures len { length pairs.new.items ≡ (if is_some result then length pairs.old.items else length pairs.old.items + 1) }
-    ensures capacity { vec_capacity pairs.old ≤ vec_capacity pairs.new }
+    ensures len { length pairs.new.items
+        ≡ (if is_some result then length pairs.old.items else length pairs.old.items + 1) }
+    ensures capacity { vec_capacity pairs.new ≡ vec_capacity pairs.old }
 {
     let place = place_in(pairs.as_slice(), &pair.key);
     if has_key_at(pairs.as_slice(), &pair.key, place) {

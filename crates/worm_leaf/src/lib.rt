@@ -1,8 +1,9 @@
 //! A leaf of the memory table: the pairs of one range of keys.
 //!
-//! Stands for   a low bound, perhaps a high one, and pairs by rising keys, all within the bounds (`specs/Leaves.antt`, `LeafState`)
-//! Promises     a leaf is a map on its range; a split loses no pair, and parts the range at the shortest prefix that does;
-//!              only `make` takes memory
+//! Stands for   a low bound, perhaps a high one, and pairs by rising keys, all within the bounds
+//!              (`specs/Leaves.antt`, `LeafState`)
+//! Promises     a leaf is a map on its range; a split loses no pair, and parts the range at the shortest prefix that
+//!              does; only `make` takes memory
 //! Goes in      pairs, moved
 //! Comes out    changes, lent; a split's anchor
 //! Stands on    rdb_base

@@ -11,13 +11,13 @@ pub(crate) fn move_from(from: &mut Vec<Pair>, at: usize, to: &mut Vec<Pair>)
     ensures from { from.new.items ≡ take at from.old.items }
     ensures from_room { vec_capacity from.new ≡ vec_capacity from.old }
     ensures to { to.new.items ≡ drop at from.old.items }
-    ensures to_room { vec_capacity to.old ≤ vec_capacity to.new }
+    ensures to_room { vec_capacity to.new ≡ vec_capacity to.old }
 {
     'pairs: while from.len() > at {
         let Some(pair) = from.pop() else {
             return;
         };
-        to.push(pair).unwrap();
+        to.push_reserved(pair);
     }
     to.reverse();
 }

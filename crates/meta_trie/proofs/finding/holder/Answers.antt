@@ -4,7 +4,7 @@ use Rattle.meta_trie.specs.Leaves.{all_of}
 use Rattle.meta_trie.specs.Tables.{node_at}
 use Rattle.meta_trie.specs.Nodes.{Best, NextBelow}
 use Rattle.meta_trie.specs.Tries.{Anchored}
-use Rattle.meta_trie.proofs.FindLemmas.{has-empty, has-shorter, next-room, gone, found-child, found-own, found-before, pick-in, before-at}
+use Rattle.meta_trie.proofs.FindLemmas.{has-empty, has-shorter, next-there, gone, found-child, found-own, found-before, pick-in, before-at}
 use Rattle.meta_trie.proofs.finding.holder.Goals as goal
 use Rattle.rdb_base.proofs.PlaceLemmas.{take_then_drop}
 
@@ -14,22 +14,20 @@ longest-len-requires-clause-first g c = has-empty _ _ (node_at c.args.table.now)
 pub longest-len-requires-clause-closed : goal.longest-len-requires-clause-closed
 longest-len-requires-clause-closed g c = has-shorter _ _ (node_at c.args.table.now) c.requires.stands c.args.key.now
 
-pub child-requires : goal.child-requires
-child-requires g c = record {
-  room = next-room _ _ (node_at c.args.table.now) c.requires.stands c.split_at.result.0.now c.in-Some.node.now c.in-Some-next_below.byte (sym (c.in-Some.ensures).node) (c.in-Some-next_below.ensures).4;
-}
+pub in_branch-requires-clause-there : goal.in_branch-requires-clause-there
+in_branch-requires-clause-there g c = next-there _ _ (node_at c.args.table.now) c.requires.stands c.split_at.result.0.now c.in-Some.node.now c.in-Some-next_below.byte (sym (c.in-Some.ensures).node) (c.in-Some-next_below.ensures).4
 
-pub returns-in-Some-child-clause-best : goal.returns-in-Some-child-clause-best
-returns-in-Some-child-clause-best g c =
+pub in_branch-requires-clause-child : goal.in_branch-requires-clause-child
+in_branch-requires-clause-child g c = λ m there.
     let at = node_at c.args.table.now in
     let key = c.args.key.now in
     let len = c.longest-len.result in
-    found-child _ _ at c.requires.stands (take len key) (drop len key) key c.in-Some.node.now c.in-Some-child.child.now c.in-Some-next_below.byte
+    found-child _ _ at c.requires.stands (take len key) (drop len key) key c.in-Some.node.now m c.in-Some-next_below.byte
     (ap at (sym c.split_at.ensures.front) ∙ sym (c.in-Some.ensures).node)
     (sym (take_then_drop len key))
     (gone _ _ at c.requires.stands key len c.longest-len.ensures.longest)
     (subst (λ z. NextBelow c.in-Some.node.now z (Some c.in-Some-next_below.byte)) c.split_at.ensures.back (c.in-Some-next_below.ensures))
-    (ap (λ z. at (z ++ c.in-Some-next_below.byte ∷ [])) (sym c.split_at.ensures.front) ∙ sym (c.in-Some-child.ensures).node)
+    (ap (λ z. at (z ++ c.in-Some-next_below.byte ∷ [])) (sym c.split_at.ensures.front) ∙ there)
 
 pub returns-then-node-clause-best : goal.returns-then-node-clause-best
 returns-then-node-clause-best g c =

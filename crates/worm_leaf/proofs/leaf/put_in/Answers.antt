@@ -1,4 +1,4 @@
-use Rattle.std.proofs.Common.{◌≡◌, ◌+◌, List, true, false, get_or, set, take, drop, sym, ap, ◌∙◌, subst, ◌⊎◌, inl, inr}
+use Rattle.std.proofs.Common.{◌≡◌, ◌+◌, ℕ, List, true, false, get_or, set, take, drop, sym, ap, ◌∙◌, subst, ◌⊎◌, inl, inr}
 use Rattle.std.specs.Prelude.{◌++◌, ◌∷◌, Some, None, Result, is_ok, is_some, if◌then◌else◌}
 use Rattle.rdb_base.specs.Runs.{change_at}
 use Rattle.rdb_base.specs.Searches.{IsPlaceOf}
@@ -32,6 +32,11 @@ returns-then-has_key_at-clause-old c =
     let old : c.replace.result ≡ (get_or items place d).change = c.replace.ensures.value ∙ ap (λ (p : Pair). p.change) c.index_mut.ensures.value in
     ap Some old ∙ sym (change_at-here items pair.key place d c.requires.rises at is)
 
+-- the key is not there, so there is room
+room-for : {A : Type 0} (items : List Pair) (key : List ℕ) → A ⊎ (is_some (change_at items key) ≡ true) → change_at items key ≡ None → A
+room-for items key (inl room) none = room
+room-for items key (inr some) none = absurd (let f = sym some ∙ ap is_some none in cc)
+
 pub unwrap-requires : goal.unwrap-requires
 unwrap-requires c =
     let items = c.args.pairs.now.items in
@@ -39,11 +44,16 @@ unwrap-requires c =
     let place = c.place_in-place.result in
     let at : IsPlaceOf items pair.key place = subst (λ (run : List Pair). IsPlaceOf run pair.key place) c.as_slice.ensures.value c.place_in-place.ensures in
     let is : is_key_at items pair.key place ≡ false = ap (λ (run : List Pair). is_key_at run pair.key place) (sym c.as_slice-2.ensures.value) ∙ sym c.has_key_at.ensures ∙ c.if-has_key_at.false in
-    let none : change_at items pair.key ≡ None = change_at-absent items pair.key place c.requires.rises at is in
-    elim c.requires.room [
-      | inl lt ↦ c.insert.ensures.succeeds lt
-      | inr some ↦ absurd (let f = sym some ∙ ap is_some none in cc)
-    ]
+    c.insert.ensures.succeeds (room-for items pair.key c.requires.room (change_at-absent items pair.key place c.requires.rises at is))
+
+pub returns-clause-capacity : goal.returns-clause-capacity
+returns-clause-capacity c =
+    let items = c.args.pairs.now.items in
+    let pair = c.args.pair in
+    let place = c.place_in-place.result in
+    let at : IsPlaceOf items pair.key place = subst (λ (run : List Pair). IsPlaceOf run pair.key place) c.as_slice.ensures.value c.place_in-place.ensures in
+    let is : is_key_at items pair.key place ≡ false = ap (λ (run : List Pair). is_key_at run pair.key place) (sym c.as_slice-2.ensures.value) ∙ sym c.has_key_at.ensures ∙ c.if-has_key_at.false in
+    (c.insert.ensures.in_place (room-for items pair.key c.requires.room (change_at-absent items pair.key place c.requires.rises at is))).1.0
 
 pub returns-clause-set : goal.returns-clause-set
 returns-clause-set c =

@@ -9,7 +9,7 @@ invariant-pairs l =
       at : l.at ≤ vec_len l.from;
       len : vec_len l.from + vec_len l.to ≡ vec_len l.initial.from;
       from_room : vec_capacity l.from ≡ vec_capacity l.initial.from;
-      to_room : vec_capacity l.initial.to ≤ vec_capacity l.to;
+      to_room : vec_capacity l.to ≡ vec_capacity l.initial.to;
     }
 
 abbrev pub decreases-pairs : goal.decreases-pairs

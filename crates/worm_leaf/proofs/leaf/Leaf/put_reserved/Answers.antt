@@ -19,5 +19,5 @@ invariant_of-self c =
       leaf-put c.self.inside.low (bound c.self.inside.bounded c.self.inside.high) pairs new c.args.pair c.self.invariant.0
           (ap (λ (leaf : LeafState). covers leaf c.args.pair.key) c.self.view_is ∙ c.requires.covered) c.put_in.ensures.set
           (length-put there (length pairs) (length new) len c.self.invariant.0.most room),
-      omega (arith, c.put_in.ensures.capacity, c.self.invariant.1),
+      c.put_in.ensures.capacity ∙ c.self.invariant.1,
     )

@@ -1,10 +1,12 @@
-use Rattle.std.proofs.Common.{◌≡◌, ◌<◌, ◌≤◌, List, ℕ, length, take, drop, sym, ap, ◌∙◌, subst, arith}
+use Rattle.std.proofs.Common.{◌≡◌, ◌<◌, ◌≤◌, true, List, ℕ, length, take, drop, sym, ap, ◌∙◌, subst, arith}
 use Rattle.std.specs.Prelude.{Some, slice_get}
 use Rattle.std.proofs.lemmas.List.{length-take, length-drop}
+use Rattle.std.specs.declared.cmp.Ordering.TheVariants.{Less}
+use Rattle.rdb_base.specs.Order.{key_cmp}
 use Rattle.rdb_base.specs.declared.pair.Pair.{Pair}
 use Rattle.worm_leaf.specs.Anchors.{IsAnchor, PartsAt}
-use Rattle.worm_leaf.specs.Leaves.{LeafState, IsLeaf, bound}
-use Rattle.worm_leaf.proofs.LeafLemmas.{leaf-left, leaf-right, some_at}
+use Rattle.worm_leaf.specs.Leaves.{LeafState, IsLeaf, bound, covers}
+use Rattle.worm_leaf.proofs.LeafLemmas.{leaf-left, leaf-right, some_at, anchor-inside}
 use Rattle.worm_leaf.proofs.leaf.Leaf.split_into.Goals as goal
 
 pub invariant_of-self : goal.invariant_of-self
@@ -21,7 +23,7 @@ invariant_of-self c =
     let base : IsLeaf (record { low = low; high = Some anchor; pairs = take 32 pairs }) = leaf-left low high pairs 31 last.0 first.0 anchor c.self.invariant.0 last.1 is (omega (arith, full, length-take 32 pairs)) in (
       subst (λ (z : List ℕ). IsLeaf (record { low = low; high = Some z; pairs = c.move_from.new.from.items })) (sym (c.set-2.ensures ∙ c.as_bytes-2.ensures.bytes))
           (subst (λ (xs : List Pair). IsLeaf (record { low = low; high = Some anchor; pairs = xs })) (sym c.move_from.ensures.from) base),
-      omega (arith, c.move_from.ensures.from_room, c.self.invariant.1),
+      c.move_from.ensures.from_room ∙ c.self.invariant.1,
     )
 
 pub invariant_of-right : goal.invariant_of-right
@@ -40,10 +42,22 @@ invariant_of-right c =
       subst (λ (z : List ℕ). IsLeaf (record { low = z; high = bound bounded c.swap.new.y; pairs = c.move_from.new.to.items })) (sym (c.set.ensures ∙ c.as_bytes.ensures.bytes))
           (subst (λ (z : List ℕ). IsLeaf (record { low = anchor; high = bound bounded z; pairs = c.move_from.new.to.items })) (sym c.swap.ensures.y_after)
           (subst (λ (xs : List Pair). IsLeaf (record { low = anchor; high = high; pairs = xs })) (sym c.move_from.ensures.to) base)),
-      omega (arith, c.move_from.ensures.to_room, c.right.invariant.1),
+      c.move_from.ensures.to_room ∙ c.right.invariant.1,
     )
 
 pub returns-clause-anchor : goal.returns-clause-anchor
 returns-clause-anchor c =
     let anchor = c.part_at.new.anchor in
     subst (λ (run : List Pair). PartsAt run 32 anchor) (c.as_slice.ensures.value ∙ ap (λ (leaf : LeafState). leaf.pairs) c.self.view_is) c.part_at.ensures
+
+pub returns-clause-inside : goal.returns-clause-inside
+returns-clause-inside c =
+    let pairs = c.self.inside.pairs.items in
+    let anchor = c.part_at.new.anchor in
+    let full : length pairs ≡ 64 = ap (λ (leaf : LeafState). length leaf.pairs) c.self.view_is ∙ c.requires.full in
+    let parts : PartsAt pairs 32 anchor = subst (λ (run : List Pair). PartsAt run 32 anchor) c.as_slice.ensures.value c.part_at.ensures in
+    let last : (p : Pair) × (slice_get pairs 31 ≡ Some p) = some_at pairs 31 (omega (arith, full)) in
+    let first : (p : Pair) × (slice_get pairs 32 ≡ Some p) = some_at pairs 32 (omega (arith, full)) in
+    let leaf : LeafState = record { low = c.self.inside.low; high = bound c.self.inside.bounded c.self.inside.high; pairs = pairs } in
+    subst (λ (old : LeafState). (key_cmp old.low anchor ≡ Less) × (covers old anchor ≡ true)) c.self.view_is
+    (anchor-inside leaf 31 32 last.0 first.0 anchor c.self.invariant.0 last.1 first.1 (parts last.0 first.0 last.1 first.1))
