@@ -1,0 +1,57 @@
+//! What a selector's bits mean. The low six name the run, the next two are marks.
+ghost use Rattle.std.specs.Prelude.{◌≡◌, ◌==◌, ◌≤◌, length};
+ghost use Rattle.remix_view.specs.Selectors.{run_in, del_in, old_in, is_filler, rank_in};
+
+/// A place that no version takes. Fillers stand only at the end of a segment.
+pub const FILLER: u8 = 0x3F;
+
+/// The mark of a deletion. The bits below it name the run.
+pub const DELETION: u8 = 0x40;
+
+/// The mark of an older version of the key at the place before.
+pub const OLD: u8 = 0x80;
+
+const _: () = prove!(FILLER == 63);
+
+const _: () = prove!(DELETION == 64);
+
+const _: () = prove!(OLD == 128);
+
+/// Whether no version takes the place.
+pub fn is_filler(selector: u8) -> bool
+    ensures { result ≡ is_filler selector }
+{
+    selector == FILLER
+}
+
+/// The run that it names: 0 is the newest.
+pub fn run_in(selector: u8) -> u8
+    ensures { result ≡ run_in selector }
+{
+    selector % DELETION
+}
+
+/// Whether the change is a deletion.
+pub fn is_deletion(selector: u8) -> bool
+    ensures { result ≡ del_in selector }
+{
+    selector % OLD >= DELETION
+}
+
+/// Whether the key at the place before has a newer version.
+pub fn is_old(selector: u8) -> bool
+    ensures { result ≡ old_in selector }
+{
+    selector >= OLD
+}
+
+/// How many of these selectors, at most those of a segment, name the run.
+pub fn rank(selectors: &[u8], run: u8) -> u8
+    requires { length selectors.now ≤ 32 }
+    ensures { result ≡ rank_in run selectors.now }
+{
+    selectors
+        .iter()
+        .filter(|selector| run_in(**selector) == run)
+        .count() as u8
+}
