@@ -1,0 +1,12 @@
+pub mod CountLemmas
+pub mod UniqueLemmas
+pub mod PlaceLemmas
+pub mod VersionLemmas
+pub mod SegmentLemmas
+pub mod KnownLemmas
+pub mod SearchLemmas
+pub mod ReadLemmas
+pub mod NewestLemmas
+pub mod WalkOrderLemmas
+pub mod OneIndexLemmas
+pub mod RisingLemmas

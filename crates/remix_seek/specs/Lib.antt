@@ -1,0 +1,7 @@
+pub mod Reads
+pub mod Versions
+pub mod Indexes
+pub mod Places
+pub mod Searches
+pub mod Kept
+pub mod Laws
