@@ -1,0 +1,6 @@
+pub mod MergeLemmas
+pub mod GroupLemmas
+pub mod PackLemmas
+pub mod BuildLemmas
+pub mod NextLemmas
+pub mod StepLemmas
