@@ -1,6 +1,10 @@
 //! What a selector's bits mean. The low six name the run, the next two are marks.
-ghost use Rattle.std.specs.Prelude.{◌≡◌, ◌==◌, ◌≤◌, length};
+ghost use Rattle.std.specs.Prelude.{◌≡◌, ◌==◌, ◌<◌, ◌≤◌, length, take, map};
+ghost use Rattle.std.specs.Simd.Lanes.{mask_l};
 ghost use Rattle.remix_view.specs.Selectors.{run_in, del_in, old_in, is_filler, rank_in};
+
+use crate::limits::SEGMENT_PLACES;
+use std::simd::prelude::*;
 
 /// A place that no version takes. Fillers stand only at the end of a segment.
 pub const FILLER: u8 = 0x3F;
@@ -54,4 +58,22 @@ pub fn rank(selectors: &[u8], run: u8) -> u8
         .iter()
         .filter(|selector| run_in(**selector) == run)
         .count() as u8
+}
+
+/// How many selectors of a segment before a place name the run. All 32 are compared at once.
+pub(crate) fn rank_before(selectors: &[u8; SEGMENT_PLACES], place: u8, run: u8) -> u8
+    requires { place < 32 }
+    ensures { result ≡ rank_in run (take place selectors.now) }
+{
+    let named = named_by(u8x32::from_array(*selectors), run);
+    (named % (1 << place)).count_ones() as u8
+}
+
+/// A bit for each selector, the lowest for the first: whether it names the run.
+fn named_by(selectors: u8x32, run: u8) -> u64
+    requires { length selectors ≡ 32 }
+    ensures { result ≡ mask_l (map (λ selector. run_in selector == run) selectors) }
+{
+    let runs = selectors & u8x32::splat(FILLER);
+    runs.simd_eq(u8x32::splat(run)).to_bitmask()
 }

@@ -7,7 +7,7 @@ ghost use Rattle.remix_view.specs.Kept.{segments_kept};
 use crate::limits::SEGMENT_PLACES;
 use crate::segment::Segment;
 use crate::segments::Segments;
-use crate::selector::rank;
+use crate::selector::rank_before;
 use std::alloc::{AllocError as NoMemory, Global};
 use std::marker::Model;
 
@@ -74,9 +74,11 @@ impl View {
         requires place { place < 32 }
         ensures { RankAt self.now segment place run result }
     {
-        let segment = &self.segments.as_slice()[segment as usize];
-        let (front, _) = segment.selectors.split_at(place as usize);
-        rank(front, run)
+        rank_before(
+            &self.segments.as_slice()[segment as usize].selectors,
+            place,
+            run,
+        )
     }
 
     /// Adds a segment: where each run stands at its first place, and its selectors.
