@@ -1,8 +1,7 @@
 -- Counting selectors of a run by a mask of bits. To know: mask_of_runs, rank_of_mask.
-use Rattle.std.proofs.Common.{◌≡◌, ℕ, zero, suc, ◌+◌, ◌-◌, ◌*◌, ◌%◌, ◌^◌, ◌<◌, ◌≤◌, Bool, cond, eqb, List, [], ◌∷◌, length, map, take, drop, replicate, refl, sym, ap, ◌∙◌, arith, w8}
+use Rattle.std.proofs.Common.{◌≡◌, ℕ, zero, suc, ◌+◌, ◌-◌, ◌*◌, ◌%◌, ◌^◌, ◌<◌, ◌≤◌, Bool, cond, eqb, List, [], ◌∷◌, length, map, take, drop, replicate, sym, ap, ◌∙◌, arith, w8}
 use Rattle.std.specs.Prelude.{count_ones, ◌==◌, bit_and}
 use Rattle.std.specs.Simd.Lanes.{mask_l, zip2, top}
-use Rattle.std.specs.List.{count_by}
 use mir.Val.{bits, hbits}
 use native.Mathlib.Numerals.{unary_clauses}
 use Rattle.std.proofs.Math.Nat.{mul_assoc, mul_comm, add-mul-mod_self_left}

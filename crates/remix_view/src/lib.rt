@@ -1,6 +1,7 @@
 //! The order of all versions of several sorted runs, as numbers alone: which run comes next, and where it stands.
 //!
-//! Stands for   a list of segments of 32 places, and the spots that their selectors name (`specs/Views.antt`, `ViewState`)
+//! Stands for   a list of segments of 32 places, and the spots that their selectors name (`specs/Views.antt`,
+//!              `ViewState`)
 //! Promises     a walk gives the spots in order, old versions too, and passes fillers alone (`specs/Spots.antt`,
 //!              `spots_from`); it compares no key, since a view holds none
 //! Goes in      segments: where each run stands at the first place, and a selector for each place

@@ -1,4 +1,5 @@
-ghost use Rattle.std.specs.Prelude.{◌≡◌, ◌≢◌, ◌+◌, ◌-◌, ◌<◌, ◌≤◌, ◌^◌, ◌++◌, [], ◌∷◌, ℕ, length, slice_index, IfOk, OnOk, OnErr};
+ghost use Rattle.std.specs.Prelude.{◌≡◌, ◌+◌, ◌-◌, ◌<◌, ◌≤◌, ◌^◌, ◌++◌, [], ◌∷◌, ℕ, length, slice_index};
+ghost use Rattle.std.specs.Prelude.{IfOk, OnOk, OnErr};
 ghost use Rattle.std.specs.List.{AllByRecursion};
 ghost use Rattle.remix_view.specs.Selectors.{IsSelector, rank_in};
 ghost use Rattle.remix_view.specs.Views.{ViewState, IsFormed, SelectorAt, OffsetAt, RankAt, segment_with};
@@ -91,9 +92,11 @@ impl View {
         requires offsets { length offsets.now ≡ self.old.runs }
         requires few { length self.old.segments < 2 ^ 32 - 1 }
         requires named { AllByRecursion (IsSelector self.old.runs) selectors.now }
-        requires reach { (run : ℕ) → run < self.old.runs → slice_index offsets.now run + rank_in run selectors.now < 2 ^ 32 }
+        requires reach { (run : ℕ) → run < self.old.runs →
+            slice_index offsets.now run + rank_in run selectors.now < 2 ^ 32 }
         ensures runs { self.new.runs ≡ self.old.runs }
-        ensures added { OnOk result (self.new.segments ≡ self.old.segments ++ segment_with offsets.now selectors.now ∷ []) }
+        ensures added { OnOk result
+            (self.new.segments ≡ self.old.segments ++ segment_with offsets.now selectors.now ∷ []) }
         ensures same { OnErr result (self.new ≡ self.old) }
     {
         self.segments.push(alloc, Segment::new(offsets, selectors))

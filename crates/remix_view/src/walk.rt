@@ -24,7 +24,8 @@ impl Walk {
 
     /// Passes fillers, and tells the place of the next spot, or the end place: the number of segments, and 0.
     pub fn ahead(&mut self, view: &View) -> (u32, u8)
-        ensures spots { spots_from view.now self.new.segment self.new.place ≡ spots_from view.now self.old.segment self.old.place }
+        ensures spots { spots_from view.now self.new.segment self.new.place
+            ≡ spots_from view.now self.old.segment self.old.place }
         ensures place { result ≡ (self.new.segment, self.new.place) }
         ensures stands { IsAhead view.now self.new.segment self.new.place }
     {
@@ -52,7 +53,8 @@ impl Walk {
 
     /// The next spot, old or not. None at the end, and at each later call.
     pub fn next(&mut self, view: &View) -> Option<Spot>
-        ensures next { NextOf (spots_from view.now self.old.segment self.old.place) result (spots_from view.now self.new.segment self.new.place) }
+        ensures next { NextOf (spots_from view.now self.old.segment self.old.place) result
+            (spots_from view.now self.new.segment self.new.place) }
         ensures formed { IsFormed view.now }
     {
         let (segment, place) = self.ahead(view);
