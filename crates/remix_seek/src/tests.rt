@@ -1,4 +1,5 @@
-//! A run in memory, read by place, and what is shared of anchors and of an index. Searches are tested where indexes are built.
+//! A run in memory, read by place, and what is shared of anchors and of an index. Searches are tested where indexes
+//! are built.
 ghost use Rattle.std.specs.Prelude.{◌≡◌, ◌<◌};
 
 use crate::{Anchors, Remix, RunInMemory, Runs, Share};
