@@ -15,7 +15,7 @@ mod shared_history;
 mod two_callers;
 
 pub use shared_history::SharedHistory;
-pub use two_callers::run_two_callers;
+pub use two_callers::{run_both, run_two_callers};
 
 #[cfg(test)]
 mod tests;

@@ -1,5 +1,5 @@
 //! What lies under the lock.
-ghost use Rattle.std.specs.Prelude.{◌≡◌, ◌++◌, ◌∷◌, [], OnSome};
+ghost use Rattle.std.specs.Prelude.{◌≡◌, ◌+◌, ◌^◌, ◌++◌, ◌∷◌, [], length, IfSome, OnSome, IfNone};
 ghost use Rattle.front_callers.specs.Callers.{IsOverAllKeys, entry_of};
 
 use front_rule::{LeafMark, Pass, Pen, StoreName, append};
@@ -47,12 +47,15 @@ impl<K: StoreName> SharedHistory<K> {
         pen
     }
 
-    /// Appends one more call of the pass's caller; None if no number is left.
+    /// Appends one more entry of the pass's caller, and answers its number. None, and the same history, if no number is left.
     #[tactic(auto, using(front_rule::proofs::KeyLemmas::in_range_all))]
     pub fn put(&mut self, pass: &mut Pass<K>, key: Key, change: Change) -> Option<u64>
+        ensures number { IfSome result (λ n. n ≡ K.first + length self.old.list) }
         ensures own { OnSome result (pass.new.own ≡ pass.old.own ++ entry_of pass.old key change ∷ []) }
         ensures list { OnSome result (self.new.list ≡ self.old.list ++ entry_of pass.old key change ∷ []) }
         ensures caller { pass.new.caller ≡ pass.old.caller }
+        ensures spent { IfNone result (K.first + length self.old.list ≡ 2 ^ 62) }
+        ensures same { IfNone result (self.new ≡ self.old) }
     {
         let entry = Entry {
             caller: pass.caller(),

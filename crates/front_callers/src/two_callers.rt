@@ -42,8 +42,11 @@ fn put_both<K: StoreName + Send + Sync, R: Threads + Wait + Sync>(
     Some((a?, b?))
 }
 
-// Makes the history of this name, lets both callers put their rows at once, and ends both. The pen has the one list.
-fn run_both<K: StoreName + Send + Sync, R: Threads + Wait + Sync>(
+/// Makes the history of this name, lets both callers put their rows at once, each in a thread of its own, and ends both. The
+/// answered pen has the one list.
+///
+/// None if memory or numbers ran out.
+pub fn run_both<K: StoreName + Send + Sync, R: Threads + Wait + Sync>(
     rt: &R,
     alloc: Global,
     blank: FrontBlank,

@@ -10,7 +10,7 @@ use Rattle.rdb_base.specs.Histories.{calls_of}
 use Rattle.rdb_base.specs.declared.entry.Entry.{Entry}
 use Rattle.rdb_base.specs.Ranges.{in_range}
 use Rattle.front_rule.specs.Parts.{one_if, pens, passes, ends, covers, base_of, end_of, entries_in, Stands}
-use Rattle.front_rule.specs.Rule.{LeafFits, Fits, IsWell, IsShared, Sound}
+use Rattle.front_rule.specs.Rule.{LeafFits, Fits, IsWell, Sound}
 use Rattle.front_rule.specs.Known.{pen_with, leaf_after, pass_with}
 use Rattle.front_rule.specs.Steps.{three, CanAppend, Appends}
 use Rattle.front_rule.specs.declared.parts.PenPart.{PenPart}
@@ -21,8 +21,8 @@ use Rattle.front_rule.specs.declared.parts.Part.TheVariants as part
 use Rattle.rdb_base.proofs.PrefixLemmas.{prefix_more, prefix_length, prefix_whole, filter-push_other, filter-push_own}
 use Rattle.front_rule.proofs.BaseLemmas.{get_or-all, get_or-past, get_or-within, get_or-greater}
 use Rattle.front_rule.proofs.CallLemmas.{one_if-zero, calls_of-more_other, calls_of-more_own, calls_of-more_ended, IsFair-more}
-use Rattle.front_rule.proofs.RuleLemmas.{SoundWith-pen}
-use Rattle.front_rule.proofs.StandsLemmas.{Stands-whole, Stands-open, entries_in-open}
+use Rattle.front_rule.proofs.RuleLemmas.{SoundWith-pen, passes-alone}
+use Rattle.front_rule.proofs.StandsLemmas.{Stands-whole, Stands-open, GoesOn-pen, entries_in-open}
 
 -- ---- what other seats know stays true
 
@@ -104,11 +104,6 @@ IsWell-more first p a e well own caller ordinal room none = record {
 
 -- ---- who else could have the caller, or the key
 
--- of the caller of a pass there is no other pass, and it has not ended
-passes-alone : (g : PenPart) (c : ℕ) (xs : List Part) (m : ℕ) → IsShared g xs → weigh (passes c) xs ≡ 1 + m → Dec (g.made ≤ c) → (m ≡ 0) × (weigh (ends c) g.ended ≡ 0)
-passes-alone g c xs m s is (yes above) = let h = (s.unmade c above).0 in absurd (omega arith)
-passes-alone g c xs m s is (no below) = let h = s.made c (lt_of_not-le below) in (omega arith, omega arith)
-
 and-true : (x y : Bool) → x ≡ true → y ≡ true → x && y ≡ true
 and-true true y h k = k
 and-true false y h k = absurd cc
@@ -138,7 +133,7 @@ Goes-append_three first e p l a (memtable, range, caller, ordinal, room) n other
     let here : (l.memtable == p.memtable) ≡ true = eq-eqb l.memtable p.memtable memtable in
     let covering : covers p.memtable e.key (part.Leaf l) ≡ 1 = ap one_if (and-true (l.memtable == p.memtable) (in_range l.low l.high e.key) here range) in
     let no_leaf : weigh (covers p.memtable e.key) others ≡ 0 = let o = shared.apart p.memtable e.key in omega arith in
-    let now = IsWell-more first p a e r.well pass.calls caller ordinal room sole.1 in
+    let now = IsWell-more first p a e r.well pass.calls caller ordinal room sole.2 in
     let whole = Stands-whole first g now in
     let bases = Stands-open p l.memtable l.bases l.list leaf.stands memtable in
     let leaf_whole : Stands g l.memtable l.bases list = subst (λ (b : ℕ × List ℕ). Stands g b.0 b.1 list) (λ i. (sym memtable i, sym bases i)) whole in
@@ -170,7 +165,7 @@ Goes-append_three first e p l a (memtable, range, caller, ordinal, room) n other
               record { stands = leaf_whole; has = all },
               (
                 record { stands = whole; calls = own; seen_calls = own; safe = pass.safe; told = pass.told },
-                Fits-more_all first p e others r.well no_pen sole.0 no_leaf r.fit.1.1.1,
+                Fits-more_all first p e others r.well no_pen sole.1 no_leaf r.fit.1.1.1,
               ),
             ),
           );
@@ -184,6 +179,8 @@ Goes-append_three first e p l a (memtable, range, caller, ordinal, room) n other
         leaf.stands.list_is,
         filter-push_own (λ (x : Entry). in_range l.low l.high x.key) (base_of l.bases) p.list e within range ∙ ap (λ x. x ++ e ∷ []) (entries_in-open p l leaf bases),
         own,
+        bases,
+        GoesOn-pen p a.memtable a.bases a.seen pass.stands,
       ),
     )
 

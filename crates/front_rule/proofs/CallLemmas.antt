@@ -1,8 +1,9 @@
 -- The calls of one caller in a list with one more entry.
--- To know: `calls_of-more_own`, `calls_of-more_other`, `IsFair-more`.
-use Rattle.std.proofs.Common.{◌≡◌, ℕ, ◌+◌, ◌==◌, Bool, true, false, cond, List, [], ◌∷◌, ◌++◌, length, refl, ap, sym, ◌∙◌, subst, arith, eq-eqb}
+-- To know: `calls_of-more_own`, `calls_of-more_other`, `IsFair-more`, `ends-none`.
+use Rattle.std.proofs.Common.{◌≡◌, ◌≢◌, ℕ, ◌+◌, ◌==◌, Bool, true, false, cond, List, [], ◌∷◌, ◌++◌, length, refl, ap, sym, ◌∙◌, subst, arith, eq-eqb}
 use Rattle.std.specs.List.{AllByRecursion}
 use Rattle.std.proofs.lemmas.List.{append-nil}
+use Rattle.std.proofs.lemmas.Bool.{true≢false}
 use Rattle.std.proofs.lemmas.Bool.Decides.{nat_tests}
 use Rattle.seat_parts.specs.Seats.{weigh}
 use Rattle.rdb_base.specs.Histories.{calls_of, AreNumbered, IsFair}
@@ -16,6 +17,13 @@ use Rattle.front_rule.specs.Parts.{one_if, ends}
 pub one_if-zero : (b : Bool) → one_if b ≡ 0 → b ≡ false
 one_if-zero true h = absurd (omega arith)
 one_if-zero false h = refl
+
+-- who is not counted among those that have ended is none of them
+pub ends-none : (c : ℕ) (xs : List Ended) → weigh (ends c) xs ≡ 0 → AllByRecursion (λ (t : Ended). t.caller ≢ c) xs
+ends-none c [] none = tt
+ends-none c (t ∷ ts) none =
+    let other : (t.caller == c) ≡ false = one_if-zero (t.caller == c) (omega arith) in
+    ((λ same. true≢false (sym (eq-eqb t.caller c same) ∙ other)), ends-none c ts (omega arith))
 
 -- ---- the calls of a caller
 

@@ -5,7 +5,7 @@ use mathlib.Core.List.{IsPrefix}
 use Rattle.seat_parts.specs.Seats.{Goes}
 use Rattle.rdb_base.specs.Histories.{calls_of}
 use Rattle.rdb_base.specs.declared.entry.Entry.{Entry}
-use Rattle.front_rule.specs.Parts.{end_of, entries_in}
+use Rattle.front_rule.specs.Parts.{base_of, end_of, entries_in}
 use Rattle.front_rule.specs.Rule.{NoteFits, PassFits, IsWell, SoundWith, Sound}
 use Rattle.front_rule.specs.Known.{longer, learnt, note_of_pen, note_of_pass, note_of_leaf, note_of_base, until_end}
 use Rattle.front_rule.specs.Steps.{CanNote, Notes, GoesForward, CanLearn, Learns, CanLook, Looks, CanCompare, Compares}
@@ -18,7 +18,7 @@ use Rattle.front_rule.specs.declared.parts.Part.TheVariants as part
 use Rattle.rdb_base.proofs.PrefixLemmas.{prefix_trans, prefix_shorter, squeeze}
 use Rattle.front_rule.proofs.BaseLemmas.{base_of-prefix, end_of-climbs, end_of-known, end_of-reached}
 use Rattle.front_rule.proofs.RuleLemmas.{SoundWith-pen, IsShared-same}
-use Rattle.front_rule.proofs.StandsLemmas.{length-longer, IsPrefix-longer_first, IsPrefix-longer_second, Stands-whole, Stands-base, Stands-longer, entries_in-between}
+use Rattle.front_rule.proofs.StandsLemmas.{length-longer, IsPrefix-longer_first, IsPrefix-longer_second, Stands-whole, Stands-base, Stands-longer, GoesOn-between, entries_in-between}
 
 -- ---- one more note
 
@@ -49,7 +49,7 @@ Goes-note first (part.Leaf l ∷ []) can n others s =
       stands = Stands-base first s.pen l.memtable l.bases l.list s.rule.well f;
       safe = base_of-prefix s.pen.safe l.bases s.pen.bases f.bases_is s.rule.well.bases;
     } in
-    (part.Leaf l ∷ part.Note t ∷ [], record { pen = s.pen; keeper = s.keeper; rule = SoundWith-note first n s.pen s.keeper (part.Leaf l) t others fits s.rule }, (refl, f.from))
+    (part.Leaf l ∷ part.Note t ∷ [], record { pen = s.pen; keeper = s.keeper; rule = SoundWith-note first n s.pen s.keeper (part.Leaf l) t others fits s.rule }, (refl, length-take-le (base_of l.bases) l.list f.from))
 Goes-note first (part.Note t ∷ []) can n others s =
     (part.Note t ∷ part.Note t ∷ [], record { pen = s.pen; keeper = s.keeper; rule = SoundWith-note first n s.pen s.keeper (part.Note t) t others s.rule.fit.0 s.rule }, refl)
 Goes-note first v can n others s = absurd can
@@ -72,11 +72,17 @@ PassFits-learnt first g a t well f s =
     }
 
 GoesForward-learnt : (first : ℕ) (g : PenPart) (a : PassPart) (t : NotePart) → IsWell first g → PassFits g a → NoteFits g t → GoesForward a t
-GoesForward-learnt first g a t well f s = (
-  IsPrefix-longer_first a.seen t.list g.list f.stands.list_is s.stands.list_is,
-  IsPrefix-longer_second a.seen t.list g.list f.stands.list_is s.stands.list_is,
-  (PassFits-learnt first g a t well f s).seen_calls,
-)
+GoesForward-learnt first g a t well f s =
+    let b = learnt a t in
+    let fits = PassFits-learnt first g a t well f s in
+    let more = length-longer a.bases t.bases in
+    record {
+      seen = IsPrefix-longer_first a.seen t.list g.list f.stands.list_is s.stands.list_is;
+      noted = IsPrefix-longer_second a.seen t.list g.list f.stands.list_is s.stands.list_is;
+      own = fits.seen_calls;
+      seen_on = GoesOn-between g a.memtable a.bases a.seen b.memtable b.bases b.seen f.stands fits.stands (omega arith);
+      noted_on = GoesOn-between g t.memtable t.bases t.list b.memtable b.bases b.seen s.stands fits.stands (omega arith);
+    }
 
 pub Goes-learn : (first : ℕ) (v : List Part) → CanLearn first v → Goes (Sound first) v (λ n. n) (Learns first v)
 Goes-learn first (part.Pass a ∷ part.Note t ∷ []) can n others s =
@@ -125,7 +131,7 @@ Goes-look first (part.Pass a ∷ part.Leaf l ∷ []) can n others s =
       (
         refl,
         forward,
-        λ below. entries_in-between g l b.seen leaf forward.1 fits.stands.list_is
+        λ below. entries_in-between g l b.seen leaf forward.noted fits.stands.list_is
             (let u = fits.stands.upto in let k = length-longer a.bases l.bases in let m = pass.stands.number in let j = leaf.stands.number in
             let c = end_of-climbs first g (longer a.bases l.bases) l.bases r.well (omega arith) in omega arith),
       ),
@@ -152,6 +158,12 @@ Goes-compare first (part.Note t ∷ part.Leaf l ∷ []) can n others s =
     let has : entries_in l cutoff ≡ entries_in l l.list = entries_in-between g l cutoff f begins whole (omega (arith, size)) in (
       part.Note t ∷ part.Leaf l ∷ [],
       s,
-      (refl, subst (λ (k : ℕ). entries_in l (take k t.list) ≡ entries_in l l.list) end has),
+      (
+        refl,
+        subst (λ (k : ℕ). entries_in l (take k t.list) ≡ entries_in l l.list) end has,
+        subst (λ (k : ℕ). IsPrefix l.list (take k t.list)) end begins,
+        subst (λ (k : ℕ). k ≤ length t.list) end reached,
+        GoesOn-between g l.memtable l.bases l.list t.memtable t.bases t.list leaf note (omega arith),
+      ),
     )
 Goes-compare first v can n others s = absurd can

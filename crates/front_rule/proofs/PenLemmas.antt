@@ -2,7 +2,7 @@
 -- To know: `Fits-later_all`, `Goes-settle`, `Goes-fail`, `Goes-make`, `Goes-catch`, `Goes-end`.
 use Rattle.std.proofs.Common.{◌≡◌, ℕ, ◌+◌, ◌≤◌, ◌<◌, ◌==◌, List, [], ◌∷◌, length, take, get_or, refl, ap, sym, ◌∙◌, subst, arith, eq-eqb, ne_eqb}
 use Rattle.std.specs.List.{AllByRecursion}
-use native.Mathlib.Decide.{ℕ_discrete}
+use native.Mathlib.Decide.{ℕ_discrete, dec_le}
 use mathlib.Core.List.{IsPrefix}
 use Rattle.seat_parts.specs.Seats.{weigh, Goes}
 use Rattle.seat_parts.proofs.AlikeLemmas.{weigh-append}
@@ -17,8 +17,9 @@ use Rattle.front_rule.specs.declared.parts.PenPart.{PenPart}
 use Rattle.front_rule.specs.declared.parts.Ended.{Ended}
 use Rattle.front_rule.specs.declared.parts.Part.{Part}
 use Rattle.front_rule.specs.declared.parts.Part.TheVariants as part
-use Rattle.front_rule.proofs.RuleLemmas.{SoundWith-pen, IsWell-same}
-use Rattle.front_rule.proofs.StandsLemmas.{Stands-whole}
+use Rattle.front_rule.proofs.CallLemmas.{ends-none}
+use Rattle.front_rule.proofs.RuleLemmas.{SoundWith-pen, IsWell-same, passes-alone}
+use Rattle.front_rule.proofs.StandsLemmas.{Stands-whole, GoesOn-pen}
 
 -- ---- what other seats know stays true
 
@@ -97,7 +98,7 @@ Goes-settle upto first (part.Pen p ∷ []) can n others s =
           upto = r.upto;
         };
       },
-      refl,
+      (refl, let u = r.well.safe in omega arith),
     )
 Goes-settle upto first v can n others s = absurd can
 
@@ -195,7 +196,7 @@ Goes-catch first (part.Pen p ∷ part.Pass a ∷ []) can n others s =
           upto = (r.upto.0, (r.upto.1.0, r.upto.1.1));
         };
       },
-      (refl, pass.stands.list_is, pass.calls, pass.safe),
+      (refl, pass.stands.list_is, pass.calls, pass.safe, GoesOn-pen p a.memtable a.bases a.seen pass.stands),
     )
 Goes-catch first v can n others s = absurd can
 
@@ -212,7 +213,9 @@ Goes-end first (part.Pen p ∷ part.Pass a ∷ []) can n others s =
     let has_calls = λ (e : Ended). calls_of p.list e.caller ≡ e.calls in
     let t : Ended = record { caller = a.caller; calls = a.own } in
     let ended : AllByRecursion has_calls h.ended = all-append has_calls p.ended (t ∷ []) r.well.ended (pass.calls, tt) in
-    let more = λ (c : ℕ). weigh-append (ends c) p.ended (t ∷ []) in (
+    let more = λ (c : ℕ). weigh-append (ends c) p.ended (t ∷ []) in
+    let mine : one_if (a.caller == a.caller) ≡ 1 = ap one_if (eq-eqb a.caller a.caller refl) in
+    let sole = passes-alone p a.caller (part.Pen p ∷ part.Pass a ∷ others) (weigh (passes a.caller) others) r.shared (omega arith) (dec_le p.made a.caller) in (
       part.Pen h ∷ [],
       record {
         pen = h;
@@ -231,6 +234,16 @@ Goes-end first (part.Pen p ∷ part.Pass a ∷ []) can n others s =
           upto = ((r.upto.0.0, let q = r.upto.0.1 in let u = r.upto.1.0 in omega arith), r.upto.1.1);
         };
       },
-      (refl, pass.stands.list_is, pass.calls, pass.safe, pass.told, r.word_is, record { fair = r.well.fair; ended = ended; unmade = λ c above. (r.shared.unmade c above).1 }),
+      (
+        refl,
+        pass.stands.list_is,
+        pass.calls,
+        pass.safe,
+        pass.told,
+        r.word_is,
+        record { fair = r.well.fair; ended = ended; unmade = λ c above. (r.shared.unmade c above).1 },
+        record { made = sole.0; ended = ends-none a.caller p.ended sole.2 },
+        GoesOn-pen p a.memtable a.bases a.seen pass.stands,
+      ),
     )
 Goes-end first v can n others s = absurd can

@@ -1,6 +1,6 @@
 -- The rule does not see in which order the parts come, and what the table asks of a step, a split and a join follows.
--- To know: `Allows-step`, `SoundWith-pen`, `IsShared-same`.
-use Rattle.std.proofs.Common.{◌≡◌, ℕ, List, [], ◌∷◌, ◌++◌, ◌∙◌, sym, subst, arith}
+-- To know: `Allows-step`, `SoundWith-pen`, `IsShared-same`, `passes-alone`.
+use Rattle.std.proofs.Common.{◌≡◌, ℕ, ◌+◌, ◌≤◌, ◌<◌, List, [], ◌∷◌, ◌++◌, ◌∙◌, sym, subst, arith, lt_of_not-le}
 use mathlib.Core.Option.{none}
 use Rattle.atomic_table.specs.Table.{Me, Allows, Splits, Joins, step}
 use Rattle.seat_parts.specs.Seats.{weigh, Holds, Told, Goes, but_last, last}
@@ -10,7 +10,7 @@ use Rattle.front_rule.specs.declared.parts.Part.{Part}
 use Rattle.front_rule.specs.declared.parts.Part.TheVariants as part
 use Rattle.front_rule.specs.declared.parts.PenPart.{PenPart}
 use Rattle.front_rule.specs.declared.parts.LivePart.{LivePart}
-use Rattle.front_rule.specs.Parts.{pens, keepers, passes, covers}
+use Rattle.front_rule.specs.Parts.{pens, keepers, passes, ends, covers}
 use Rattle.front_rule.specs.Rule.{IsWell, IsShared, Sound, SoundWith}
 
 -- ---- the order of parts
@@ -79,3 +79,10 @@ IsShared-same g xs ys one keeps pass cover h = record {
   unmade = λ c above. (let u = (h.unmade c above).0 in let p = pass c in omega arith, (h.unmade c above).1);
   apart = λ m key. let a = h.apart m key in let l = cover m key in omega arith;
 }
+
+-- ---- the caller of a pass
+
+-- it was made, there is no other pass of it, and it has not ended
+pub passes-alone : (g : PenPart) (c : ℕ) (xs : List Part) (m : ℕ) → IsShared g xs → weigh (passes c) xs ≡ 1 + m → Dec (g.made ≤ c) → (c < g.made) × (m ≡ 0) × (weigh (ends c) g.ended ≡ 0)
+passes-alone g c xs m s is (yes above) = let h = (s.unmade c above).0 in absurd (omega arith)
+passes-alone g c xs m s is (no below) = let made = lt_of_not-le below in let h = s.made c made in (made, omega arith, omega arith)

@@ -1,4 +1,4 @@
--- Beginnings of the list that end in a memtable, and what leaves have in them. To know: `Stands-whole`, `Stands-longer`, `entries_in-between`.
+-- Beginnings of the list that end in a memtable, and what leaves have in them. To know: `Stands-whole`, `Stands-longer`, `GoesOn-pen`, `GoesOn-between`, `entries_in-between`.
 use Rattle.std.proofs.Common.{◌≡◌, ◌⊎◌, inl, inr, ⊎_elim, ℕ, ◌≤◌, ◌<◌, max, nat_lt, Bool, true, false, cond, List, length, take, drop, refl, ap, sym, ◌∙◌, subst, arith}
 use Rattle.std.proofs.lemmas.List.{length-take-le, length-take, take_all, take-append-drop}
 use Rattle.std.proofs.lemmas.Bool.Decides.{nat_tests}
@@ -8,7 +8,7 @@ use Rattle.rdb_base.specs.declared.entry.Entry.{Entry}
 use Rattle.rdb_base.specs.Ranges.{in_range}
 use Rattle.front_rule.specs.Parts.{base_of, end_of, entries_in, Stands}
 use Rattle.front_rule.specs.Rule.{LeafFits, IsWell}
-use Rattle.front_rule.specs.Known.{longer}
+use Rattle.front_rule.specs.Known.{longer, GoesOn}
 use Rattle.front_rule.specs.declared.parts.PenPart.{PenPart}
 use Rattle.front_rule.specs.declared.parts.LeafPart.{LeafPart}
 use Rattle.front_rule.proofs.BaseLemmas.{get_or-past, base_of-within, end_of-climbs}
@@ -84,6 +84,19 @@ Stands-longer first g m b xs n c ys well s t =
           (let p = s.upto in let q = end_of-climbs first g b (longer b c) well (omega arith) in omega arith)
           (let p = t.upto in let q = end_of-climbs first g c (longer b c) well (omega arith) in omega arith);
     }
+
+-- ---- memtables go on
+
+-- from each beginning to the open memtable
+pub GoesOn-pen : (g : PenPart) (m : ℕ) (bases : List ℕ) (list : List Entry) → Stands g m bases list → GoesOn m bases g.memtable g.bases
+GoesOn-pen g m bases list s = record { bases = s.bases_is; numbers = s.number }
+
+-- from one to another that knows as many bases
+pub GoesOn-between : (g : PenPart) (m : ℕ) (b : List ℕ) (xs : List Entry) (n : ℕ) (c : List ℕ) (ys : List Entry) → Stands g m b xs → Stands g n c ys → length b ≤ length c → GoesOn m b n c
+GoesOn-between g m b xs n c ys s t le = record {
+  bases = prefix_shorter b c g.bases s.bases_is t.bases_is le;
+  numbers = let p = s.number in let q = t.number in omega arith;
+}
 
 -- ---- what a leaf has
 

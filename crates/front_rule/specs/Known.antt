@@ -1,6 +1,7 @@
 -- What a seat knows after a call, from what it knew: the words of the contracts.
-use Rattle.std.specs.Prelude.{◌≡◌, ℕ, ◌+◌, ◌≤◌, max, nat_lt, Some, None, List, [], ◌∷◌, ◌++◌, length, take, slice_index_or, if◌then◌else◌}
+use Rattle.std.specs.Prelude.{◌≡◌, ◌≢◌, ℕ, ◌+◌, ◌≤◌, ◌<◌, max, nat_lt, Some, None, List, [], ◌∷◌, ◌++◌, length, take, slice_index_or, if◌then◌else◌}
 use Rattle.std.specs.List.{AllByRecursion}
+use mathlib.Core.List.{IsPrefix}
 use Rattle.rdb_base.specs.Histories.{calls_of, IsFair}
 use Rattle.rdb_base.specs.declared.entry.Entry.{Entry}
 use Rattle.front_rule.specs.declared.parts.PenPart.{PenPart}
@@ -9,6 +10,13 @@ use Rattle.front_rule.specs.declared.parts.PassPart.{PassPart}
 use Rattle.front_rule.specs.declared.parts.NotePart.{NotePart}
 use Rattle.front_rule.specs.declared.parts.LivePart.{LivePart}
 use Rattle.front_rule.specs.Parts.{base_of}
+
+-- ---- memtables go on
+
+-- from memtable m, with the bases up to it, to memtable n, with the bases up to that one: no base is lost, and each one more counts one number
+pub record GoesOn (m : ℕ) (before : List ℕ) (n : ℕ) (after : List ℕ) : Type 0 where
+  pub bases : IsPrefix before after
+  pub numbers : m + length after ≡ n + length before
 
 -- ---- an entry is appended
 
@@ -78,6 +86,11 @@ pass_made p = record { caller = p.made; seen = p.list; own = []; memtable = p.me
 abbrev pub pen_ended : PenPart → PassPart → PenPart
 pen_ended p a = record p { next = max p.next a.next; ended = p.ended ++ record { caller = a.caller; calls = a.own } ∷ [] }
 
+-- this caller got a pass, and its pass has not ended
+pub record IsGoing (p : PenPart) (caller : ℕ) : Type 0 where
+  pub made : caller < p.made
+  pub ended : AllByRecursion (λ e. e.caller ≢ caller) p.ended
+
 -- the list is fair, each ended caller's calls stand in it, and a caller that was not made has no call there
 pub record IsWhole (p : PenPart) : Type 0 where
   pub fair : IsFair p.list
@@ -101,9 +114,13 @@ left_of l at = record l { high = Some at }
 abbrev pub right_of : LeafPart → List ℕ → LeafPart
 right_of l at = record l { low = at }
 
--- the note's list up to the end of the leaf's memtable, where the note's memtable is a later one
+-- where the leaf's memtable ends, by the bases of a note of a later memtable: at the base of the next one
+abbrev pub end_by : NotePart → LeafPart → ℕ
+end_by t l = slice_index_or t.bases (length l.bases) 0
+
+-- the note's list up to there
 unfoldable pub until_end : NotePart → LeafPart → List Entry
-until_end t l = take (slice_index_or t.bases (length l.bases) 0) t.list
+until_end t l = take (end_by t l) t.list
 
 -- ---- live and next numbers
 

@@ -96,7 +96,6 @@ pub record PassNumbers : Type 0 where
   pub ordinal : ℕ
   pub front : ℕ
   pub memtable : ℕ
-  pub next : ℕ
 
 pub record PassHolds (first : ℕ) (views : List (List Part)) (numbers : PassNumbers) : Type 0 where
   pub part_is : views ≡ (part.Pass (pass_of views) ∷ []) ∷ []
@@ -104,7 +103,6 @@ pub record PassHolds (first : ℕ) (views : List (List Part)) (numbers : PassNum
   pub ordinal_is : numbers.ordinal ≡ length (pass_of views).own
   pub front_is : numbers.front ≡ first + length (pass_of views).seen
   pub memtable_is : numbers.memtable ≡ (pass_of views).memtable
-  pub next_is : numbers.next ≡ (pass_of views).next
   pub own_within : length (pass_of views).own ≤ length (pass_of views).seen
   pub calls : calls_of (pass_of views).seen (pass_of views).caller ≡ (pass_of views).own
   pub within : numbers.front ≤ 2 ^ 62

@@ -1,12 +1,12 @@
 -- The kinds of steps. Of each kind: which parts a seat must have for it (`Can..`), and what it makes of them and tells.
 -- A step tells of the history's first number, the parts before it, the word that it found and the parts after it.
-use Rattle.std.specs.Prelude.{◌≡◌, ℕ, ◌+◌, ◌≤◌, ◌<◌, ◌^◌, true, List, [], ◌∷◌, ◌++◌, length}
+use Rattle.std.specs.Prelude.{◌≡◌, ℕ, ◌+◌, ◌≤◌, ◌<◌, ◌^◌, max, true, List, [], ◌∷◌, ◌++◌, length}
 use mathlib.Core.List.{IsPrefix}
 use Rattle.rdb_base.specs.Histories.{calls_of}
 use Rattle.rdb_base.specs.declared.entry.Entry.{Entry}
 use Rattle.rdb_base.specs.Ranges.{in_range}
 use Rattle.front_rule.specs.Parts.{base_of, entries_in, HasAllOf}
-use Rattle.front_rule.specs.Known.{pen_with, leaf_after, pass_with, note_of_pen, note_of_pass, note_of_leaf, note_of_base, longer, learnt, pass_caught, pen_settled, pen_failed, pass_failed, pen_made, pass_made, pen_ended, IsWhole, pen_frozen, leaf_first, left_of, right_of, until_end, pen_released, next_learnt}
+use Rattle.front_rule.specs.Known.{GoesOn, pen_with, leaf_after, pass_with, note_of_pen, note_of_pass, note_of_leaf, note_of_base, learnt, pass_caught, pen_settled, pen_failed, pass_failed, pen_made, pass_made, pen_ended, IsGoing, IsWhole, pen_frozen, leaf_first, left_of, right_of, end_by, until_end, pen_released, next_learnt}
 use Rattle.front_rule.specs.declared.parts.PenPart.{PenPart}
 use Rattle.front_rule.specs.declared.parts.LeafPart.{LeafPart}
 use Rattle.front_rule.specs.declared.parts.PassPart.{PassPart}
@@ -39,6 +39,8 @@ Appends first e (part.Pen p ∷ part.Leaf l ∷ part.Pass a ∷ []) n w =
     × IsPrefix l.list p.list
     × (entries_in l (p.list ++ e ∷ []) ≡ entries_in l l.list ++ e ∷ [])
     × (calls_of (p.list ++ e ∷ []) a.caller ≡ a.own ++ e ∷ [])
+    × (l.bases ≡ p.bases)
+    × GoesOn a.memtable a.bases p.memtable p.bases
 Appends first e v n w = Unit {0}
 
 -- ---- the word rises by nothing: the open memtable ends
@@ -65,16 +67,17 @@ CanNote first v = ⊥
 abbrev pub Notes : ℕ → List Part → ℕ → List Part → Type 0
 Notes first (part.Pen p ∷ []) n w = w ≡ part.Pen p ∷ part.Note (note_of_pen p) ∷ []
 Notes first (part.Pass a ∷ []) n w = w ≡ part.Pass a ∷ part.Note (note_of_pass a) ∷ []
-Notes first (part.Leaf l ∷ []) n w = (w ≡ part.Leaf l ∷ part.Note (note_of_base l) ∷ []) × (base_of l.bases ≤ length l.list)
+Notes first (part.Leaf l ∷ []) n w = (w ≡ part.Leaf l ∷ part.Note (note_of_base l) ∷ []) × (length (note_of_base l).list ≡ base_of l.bases)
 Notes first (part.Note t ∷ []) n w = w ≡ part.Note t ∷ part.Note t ∷ []
 Notes first v n w = Unit {0}
 
--- a pass that learns this note keeps what it had seen, takes in the note's list, and finds its own calls there
-abbrev pub GoesForward : PassPart → NotePart → Type 0
-GoesForward a t =
-    IsPrefix a.seen (longer a.seen t.list)
-    × IsPrefix t.list (longer a.seen t.list)
-    × (calls_of (longer a.seen t.list) a.caller ≡ a.own)
+-- a pass that learns this note keeps what it had seen, takes in the note's list, and finds its own calls there; memtables go on from both
+pub record GoesForward (a : PassPart) (t : NotePart) : Type 0 where
+  pub seen : IsPrefix a.seen (learnt a t).seen
+  pub noted : IsPrefix t.list (learnt a t).seen
+  pub own : calls_of (learnt a t).seen a.caller ≡ a.own
+  pub seen_on : GoesOn a.memtable a.bases (learnt a t).memtable (learnt a t).bases
+  pub noted_on : GoesOn t.memtable t.bases (learnt a t).memtable (learnt a t).bases
 
 -- a pass takes in a note
 abbrev pub CanLearn : ℕ → List Part → Type 0
@@ -94,7 +97,7 @@ abbrev pub Looks : ℕ → List Part → ℕ → List Part → Type 0
 Looks first (part.Pass a ∷ part.Leaf l ∷ []) n w =
     (w ≡ part.Pass (learnt a (note_of_leaf l)) ∷ part.Leaf l ∷ [])
     × GoesForward a (note_of_leaf l)
-    × (a.memtable ≤ l.memtable → HasAllOf l (longer a.seen l.list))
+    × (a.memtable ≤ l.memtable → HasAllOf l (learnt a (note_of_leaf l)).seen)
 Looks first v n w = Unit {0}
 
 -- a pass sees all that the pen knows
@@ -108,6 +111,7 @@ Catches first (part.Pen p ∷ part.Pass a ∷ []) n w =
     × IsPrefix a.seen p.list
     × (calls_of p.list a.caller ≡ a.own)
     × (a.safe ≤ p.safe)
+    × GoesOn a.memtable a.bases p.memtable p.bases
 Catches first v n w = Unit {0}
 
 -- ---- the word is loaded, and stays: leaves
@@ -119,7 +123,11 @@ CanCompare first v = ⊥
 
 abbrev pub Compares : ℕ → List Part → ℕ → List Part → Type 0
 Compares first (part.Note t ∷ part.Leaf l ∷ []) n w =
-    (w ≡ part.Note t ∷ part.Leaf l ∷ []) × HasAllOf l (until_end t l)
+    (w ≡ part.Note t ∷ part.Leaf l ∷ [])
+    × HasAllOf l (until_end t l)
+    × IsPrefix l.list (until_end t l)
+    × (end_by t l ≤ length t.list)
+    × GoesOn l.memtable l.bases t.memtable t.bases
 Compares first v n w = Unit {0}
 
 -- a leaf is cut in two at a key of its range
@@ -139,7 +147,7 @@ CanSettle upto first (part.Pen p ∷ []) = upto ≤ length p.list
 CanSettle upto first v = ⊥
 
 abbrev pub Settles : ℕ → ℕ → List Part → ℕ → List Part → Type 0
-Settles upto first (part.Pen p ∷ []) n w = w ≡ part.Pen (pen_settled p upto) ∷ []
+Settles upto first (part.Pen p ∷ []) n w = (w ≡ part.Pen (pen_settled p upto) ∷ []) × (max p.safe upto ≤ length p.list)
 Settles upto first v n w = Unit {0}
 
 -- this many failures were told, the last one to this pass
@@ -175,6 +183,8 @@ Ends first (part.Pen p ∷ part.Pass a ∷ []) n w =
     × (a.told ≤ p.failed)
     × (n ≡ first + length p.list)
     × IsWhole (pen_ended p a)
+    × IsGoing p a.caller
+    × GoesOn a.memtable a.bases p.memtable p.bases
 Ends first v n w = Unit {0}
 
 -- ---- the word is loaded, and stays: live and next numbers

@@ -2,8 +2,9 @@
 ghost use Rattle.std.specs.Prelude.{◌≡◌, ◌+◌, ◌<◌, ◌^◌, ◌++◌, ◌∷◌, [], true, length, IfOk, OnOk, IfErr, OnErr};
 ghost use mathlib.Core.List.{IsPrefix};
 ghost use Rattle.rdb_base.specs.Ranges.{in_range};
+ghost use Rattle.rdb_base.specs.Histories.{calls_of};
 ghost use Rattle.front_rule.specs.Parts.{entries_in};
-ghost use Rattle.front_rule.specs.Known.{pen_with, leaf_after, pass_with, learnt, note_of_pen};
+ghost use Rattle.front_rule.specs.Known.{GoesOn, pen_with, leaf_after, pass_with, learnt, note_of_pen};
 ghost use Rattle.front_rule.specs.Steps.{three, CanAppend, Appends};
 
 use crate::leaf_mark::LeafMark;
@@ -42,12 +43,17 @@ pub fn append<K: StoreName>(
     ensures pen { OnOk result (pen.new ≡ pen_with pen.old entry.now) }
     ensures leaf { OnOk result (leaf.new ≡ leaf_after leaf.old (pen.old.list ++ entry.now ∷ [])) }
     ensures pass { OnOk result (pass.new ≡ pass_with pass.old pen.old entry.now) }
+    ensures own { OnOk result (calls_of pen.new.list pass.old.caller ≡ pass.new.own) }
     ensures upto { OnOk result (IsPrefix pass.old.seen pen.old.list) }
+    ensures begins { OnOk result (IsPrefix leaf.old.list pen.old.list) }
     ensures range { OnOk result (entries_in leaf.old leaf.new.list ≡ entries_in leaf.old leaf.old.list ++ entry.now ∷ []) }
+    ensures open_bases { OnOk result (leaf.old.bases ≡ pen.old.bases) }
     ensures forward { IsPrefix pass.old.seen pass.new.seen }
+    ensures pass_bases { GoesOn pass.old.memtable pass.old.bases pass.new.memtable pass.new.bases }
     ensures spent { IfErr result (λ e. (e.number ≡ 2 ^ 62) × (K.first + length pen.old.list ≡ 2 ^ 62)) }
     ensures kept { OnErr result ((pen.new ≡ pen.old) × (leaf.new ≡ leaf.old)) }
     ensures learnt { OnErr result (pass.new ≡ learnt pass.old (note_of_pen pen.old)) }
+    ensures all { OnErr result (IsPrefix pen.old.list pass.new.seen) }
 {
     if pen.front >= NUMBER_MAX {
         learn(pass, note(pen));

@@ -3,8 +3,7 @@ ghost use Rattle.std.specs.Prelude.{◌≡◌, ◌++◌, ◌∷◌, [], IfOk};
 ghost use Rattle.std.specs.Arc.{arc_value};
 ghost use Rattle.front_rule.specs.Steps.{CanAppend, Appends, CanFreeze, Freezes};
 ghost use Rattle.front_rule.specs.Marks.{held};
-ghost use Rattle.seat_parts.specs.Seats.{Goes, but_last, last};
-ghost use Rattle.front_rule.specs.Rule.{Sound};
+ghost use Rattle.seat_parts.specs.Seats.{but_last, last};
 
 use crate::NoMemory;
 use crate::origin::Origin;
@@ -102,10 +101,11 @@ impl<K: StoreName> Desk<K> {
     // A step that loads the word and leaves it.
     pub(crate) fn step<X: Kind>(&self, seat: &mut Seat<u8, Parts>) -> u64
         requires seat { (seat.old.table_id ≡ K.table) × (seat.old.me.1 ≡ []) }
-        requires goes { Goes (Sound K.first) seat.old.me.0 (λ n. n) (X.tells K.first seat.old.me.0) }
+        requires can { X.can K.first seat.old.me.0 }
         ensures seat { (seat.new.table_id ≡ K.table) × (seat.new.me.1 ≡ []) }
         ensures tells { X.tells K.first seat.old.me.0 result seat.new.me.0 }
     {
+        X::goes();
         self.board.shared.load::<Of<K, X>>(seat, 0)
     }
 }

@@ -8,6 +8,7 @@ use crate::NoMemory;
 use crate::desk::Desk;
 use crate::front_blank::FrontBlank;
 use crate::keeper::Keeper;
+use crate::kinds::Making;
 use crate::leaf_mark::LeafMark;
 use crate::pass::Pass;
 use crate::pen::Pen;
@@ -67,12 +68,9 @@ fn first_seats<K: StoreName>(blank: FrontBlank) -> (Pen<K>, LeafMark<K>, Keeper<
     ensures leaf { result.1 ≡ first_leaf blank.origin }
     ensures keeper { result.2 ≡ first_keeper blank.origin }
 {
-    let FrontBlank {
-        mut seat,
-        board,
-        origin,
-    } = blank;
-    let desk = Desk::of(board);
+    let origin = blank.origin;
+    let desk = Desk::of(blank.board);
+    let mut seat = blank.seat;
     let keeper = Keeper {
         badge: desk.cut(&mut seat),
         of: PhantomData,
@@ -102,7 +100,7 @@ fn new_pass<K: StoreName>(pen: &mut Pen<K>, caller: u32) -> Result<Pass<K>, NoMe
 {
     let desk = &pen.desk;
     let share = desk.try_copy()?;
-    desk.making(&mut pen.seat);
+    desk.step::<Making>(&mut pen.seat);
     let badge = desk.cut(&mut pen.seat);
     Ok(Pass {
         badge,
@@ -111,6 +109,5 @@ fn new_pass<K: StoreName>(pen: &mut Pen<K>, caller: u32) -> Result<Pass<K>, NoMe
         ordinal: 0,
         front: pen.front,
         memtable: pen.memtable,
-        next: 0,
     })
 }

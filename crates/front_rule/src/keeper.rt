@@ -9,7 +9,8 @@ use std::marker::{Model, PhantomData};
 ///
 /// # Threads
 ///
-/// There is one, under the compactor's lock.
+/// There is one, and it is changed through a `&mut`: so it lies under a lock. It is meant for the compactor, which makes
+/// table files of memtables that have ended, and is not there yet.
 #[derive(Drop)]
 pub struct Keeper<K: StoreName> {
     pub(crate) badge: Badge<Parts>,

@@ -4,12 +4,12 @@ ghost use Rattle.front_rule.specs.Known.{kept, pen_released, next_learnt};
 
 use crate::desk::{Desk, take};
 use crate::keeper::Keeper;
+use crate::kinds::{Keeping, Meeting, Taking};
 use crate::live_note::LiveNote;
 use crate::pass::Pass;
 use crate::pen::Pen;
 use crate::store_name::StoreName;
 use crate::told::TellsNumbers;
-use std::cmp::max;
 use std::marker::{Brand, PhantomData};
 
 /// The keeper's numbers are then these, and the answered note's.
@@ -39,7 +39,7 @@ fn keep_told<K: StoreName, E: TellsNumbers>(
     ensures note { result ≡ E.numbers }
 {
     let mut seat = take(&mut keeper.badge);
-    desk.keeping::<E>(&mut seat);
+    desk.step::<Keeping<E>>(&mut seat);
     let badge = desk.cut(&mut seat);
     keeper.badge = seat.into_badge();
     LiveNote {
@@ -62,7 +62,7 @@ pub fn release_mark<K: StoreName>(pen: &mut Pen<K>, note: LiveNote<K>)
     } = note;
     let desk = &pen.desk;
     desk.join(&mut pen.seat, &mut badge);
-    desk.taking(&mut pen.seat);
+    desk.step::<Taking>(&mut pen.seat);
 }
 
 /// The pass's next number is then the greater of both.
@@ -72,14 +72,13 @@ pub fn learn_next<K: StoreName>(pass: &mut Pass<K>, note: LiveNote<K>)
     let LiveNote {
         mut badge,
         live: _,
-        next,
+        next: _,
         of: _,
     } = note;
     let mut seat = take(&mut pass.badge);
     pass.desk.join(&mut seat, &mut badge);
-    pass.desk.taking(&mut seat);
+    pass.desk.step::<Taking>(&mut seat);
     pass.badge = seat.into_badge();
-    pass.next = max(pass.next, next);
 }
 
 /// Shows that the pen's numbers are not above the keeper's.
@@ -90,6 +89,6 @@ pub fn live_meet<K: StoreName>(pen: &mut Pen<K>, keeper: &mut Keeper<K>)
 {
     let desk = &pen.desk;
     desk.join(&mut pen.seat, &mut keeper.badge);
-    desk.meeting(&mut pen.seat);
+    desk.step::<Meeting>(&mut pen.seat);
     keeper.badge = desk.cut(&mut pen.seat);
 }

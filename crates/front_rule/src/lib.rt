@@ -17,8 +17,11 @@
 //!     leaf mark    beside its leaf          knows all entries of its range in its memtable
 //!     pass         with its caller          knows what the caller has seen, and the caller's own calls
 //!     note, pin    anywhere                 knows a beginning of the list
-//!     keeper       under the compactor's    keeps the numbers of the first live segment and of the next table
+//!     keeper       under a lock of its own  keeps the numbers of the first live segment and of the next table
 //!     live note    anywhere                 knows the keeper's numbers at some time
+//!
+//! The keeper is for the compactor, which makes table files of ended memtables, and is not there yet. What the log has
+//! for good, and that a device failed, is the word of whoever calls: no clause here speaks of files.
 #![tactic(auto)]
 
 mod appending;
@@ -43,7 +46,6 @@ mod pin_mark;
 mod plays;
 mod rule;
 mod settling;
-mod steps;
 mod store_name;
 mod told;
 

@@ -1,11 +1,13 @@
 //! Memtables end and begin, and leaves are cut in two.
-ghost use Rattle.std.specs.Prelude.{◌≡◌, ◌+◌, ◌<◌, true, length};
+ghost use Rattle.std.specs.Prelude.{◌≡◌, ◌+◌, ◌≤◌, ◌<◌, ◌^◌, true, length};
+ghost use mathlib.Core.List.{IsPrefix};
 ghost use Rattle.rdb_base.specs.Ranges.{in_range};
 ghost use Rattle.front_rule.specs.Parts.{HasAllOf};
-ghost use Rattle.front_rule.specs.Known.{pen_frozen, leaf_first, left_of, right_of, until_end};
+ghost use Rattle.front_rule.specs.Known.{GoesOn, pen_frozen, leaf_first, left_of, right_of, end_by, until_end};
 
 use crate::desk::{Desk, take};
 use crate::front_note::FrontNote;
+use crate::kinds::{Comparing, Cutting};
 use crate::leaf_mark::LeafMark;
 use crate::pen::Pen;
 use crate::store_name::StoreName;
@@ -19,6 +21,7 @@ pub fn freeze<K: StoreName>(pen: &mut Pen<K>, next: u64) -> (u64, LeafMark<K>)
     requires next { next ≡ pen.old.memtable + 1 }
     requires settled { pen.old.safe ≡ length pen.old.list }
     ensures end { result.0 ≡ K.first + length pen.old.list }
+    ensures within { result.0 ≤ 2 ^ 62 }
     ensures pen { pen.new ≡ pen_frozen pen.old }
     ensures leaf { result.1 ≡ leaf_first pen.old }
 {
@@ -56,7 +59,7 @@ fn part_told<K: StoreName, E: TellsKey>(
     ensures right { result ≡ right_of leaf.old at.now }
 {
     let mut seat = take(&mut leaf.badge);
-    desk.cutting::<E>(&mut seat);
+    desk.step::<Cutting<E>>(&mut seat);
     let badge = desk.cut(&mut seat);
     leaf.badge = seat.into_badge();
     LeafMark {
@@ -74,10 +77,13 @@ pub fn ended<K: StoreName>(desk: &Desk<K>, leaf: &mut LeafMark<K>, later: &mut F
     requires { leaf.old.memtable < later.old.memtable }
     ensures same { (leaf.new ≡ leaf.old) × (later.new ≡ later.old) }
     ensures all { HasAllOf leaf.old (until_end later.old leaf.old) }
+    ensures begins { IsPrefix leaf.old.list (until_end later.old leaf.old) }
+    ensures reaches { end_by later.old leaf.old ≤ length later.old.list }
+    ensures later { GoesOn leaf.old.memtable leaf.old.bases later.old.memtable later.old.bases }
 {
     let mut seat = take(&mut later.badge);
     desk.join(&mut seat, &mut leaf.badge);
-    desk.comparing(&mut seat);
+    desk.step::<Comparing>(&mut seat);
     leaf.badge = desk.cut(&mut seat);
     later.badge = seat.into_badge();
 }

@@ -1,9 +1,11 @@
 //! Notes and pins are made.
-ghost use Rattle.std.specs.Prelude.{◌≡◌};
+ghost use Rattle.std.specs.Prelude.{◌≡◌, length};
+ghost use Rattle.front_rule.specs.Parts.{base_of};
 ghost use Rattle.front_rule.specs.Known.{note_of_pen, note_of_pass, note_of_base};
 
 use crate::desk::{Desk, take};
 use crate::front_note::FrontNote;
+use crate::kinds::Noting;
 use crate::leaf_mark::LeafMark;
 use crate::pass::Pass;
 use crate::pen::Pen;
@@ -17,7 +19,7 @@ pub fn note<K: StoreName>(pen: &mut Pen<K>) -> FrontNote<K>
     ensures note { result ≡ note_of_pen pen.old }
 {
     let desk = &pen.desk;
-    desk.noting(&mut pen.seat);
+    desk.step::<Noting>(&mut pen.seat);
     FrontNote {
         badge: desk.cut(&mut pen.seat),
         front: pen.front,
@@ -32,7 +34,7 @@ pub fn tell<K: StoreName>(pass: &mut Pass<K>) -> FrontNote<K>
     ensures note { result ≡ note_of_pass pass.old }
 {
     let mut seat = take(&mut pass.badge);
-    pass.desk.noting(&mut seat);
+    pass.desk.step::<Noting>(&mut seat);
     let badge = pass.desk.cut(&mut seat);
     pass.badge = seat.into_badge();
     FrontNote {
@@ -47,9 +49,10 @@ pub fn tell<K: StoreName>(pass: &mut Pass<K>) -> FrontNote<K>
 pub fn base_note<K: StoreName>(desk: &Desk<K>, leaf: &mut LeafMark<K>) -> FrontNote<K>
     ensures same { leaf.new ≡ leaf.old }
     ensures note { result ≡ note_of_base leaf.old }
+    ensures base { length result.list ≡ base_of leaf.old.bases }
 {
     let mut seat = take(&mut leaf.badge);
-    desk.noting(&mut seat);
+    desk.step::<Noting>(&mut seat);
     let badge = desk.cut(&mut seat);
     leaf.badge = seat.into_badge();
     FrontNote {

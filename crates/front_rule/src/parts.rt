@@ -12,7 +12,8 @@ pub struct PenPart {
     pub memtable: u64,
     /// The places at which the memtables begin, the open one's last.
     pub bases: LinkedList<u64>,
-    /// The place below which the log has all entries for good.
+    /// The place below which the log has all entries for good, as its holder said: it is the greatest that `settled` was
+    /// told. No clause here speaks of the log.
     pub safe: u64,
     /// The number of the first segment of the log that is still needed.
     pub live: u64,
@@ -50,13 +51,13 @@ pub struct PassPart {
     pub caller: u64,
     /// A beginning of the list.
     pub seen: LinkedList<Entry>,
-    /// The caller's calls, in order.
+    /// The caller's calls, in order: the entries that it appended.
     pub own: LinkedList<Entry>,
     /// The number of the memtable in which `seen` ends.
     pub memtable: u64,
     /// The places at which the memtables up to that one begin.
     pub bases: LinkedList<u64>,
-    /// A place below which the log has all entries for good.
+    /// A place that the pen had as its safe one: below it the log has all entries for good, as the log's holder said.
     pub safe: u64,
     /// The number of the next table file, as far as it was told.
     pub next: u64,
@@ -71,7 +72,7 @@ pub struct NotePart {
     pub memtable: u64,
     /// The places at which the memtables up to that one begin.
     pub bases: LinkedList<u64>,
-    /// A place below which the log has all entries for good.
+    /// A place that the pen had as its safe one.
     pub safe: u64,
 }
 

@@ -8,8 +8,8 @@ use crate::store_name::StoreName;
 use atomic_table::Badge;
 use std::marker::Model;
 
-/// The seat of one caller: it knows what the caller has seen, and the caller's own calls. Contracts see it as what it
-/// knows.
+/// The seat of one caller: it knows what the caller has seen, and the caller's own calls. A call, here and in `calls_of`, is
+/// an update that stands in the list as an entry: a read is none. Contracts see a pass as what it knows.
 ///
 /// # Threads
 ///
@@ -19,14 +19,12 @@ pub struct Pass<K: StoreName> {
     pub(crate) badge: Badge<Parts>,
     pub(crate) desk: Desk<K>,
     pub(crate) caller: u32,
-    /// How many calls its caller has made.
+    /// How many entries its caller has in the list: the ordinal of its next one.
     pub(crate) ordinal: u64,
     /// The number after the last entry's that it has seen.
     pub(crate) front: u64,
     /// The number of the memtable in which that ends.
     pub(crate) memtable: u64,
-    /// The number of the next table file, as far as it was told.
-    pub(crate) next: u64,
 }
 
 impl<K: StoreName> Model for Pass<K> {
@@ -40,7 +38,7 @@ impl<K: StoreName> Model for Pass<K> {
 
     ghost invariant = { λ s. (s.badge.table_id ≡ K.table)
         × PassHolds K.first s.badge.views
-        (record { caller = s.caller; ordinal = s.ordinal; front = s.front; memtable = s.memtable; next = s.next }) };
+        (record { caller = s.caller; ordinal = s.ordinal; front = s.front; memtable = s.memtable }) };
 }
 
 impl<K: StoreName> Pass<K> {
@@ -61,7 +59,7 @@ impl<K: StoreName> Pass<K> {
         self.caller
     }
 
-    /// The ordinal of its caller's next call.
+    /// The ordinal of its caller's next entry.
     pub fn ordinal(&self) -> u64
         ensures { result ≡ length self.now.own }
     {

@@ -54,10 +54,19 @@ impl<K: StoreName> Play<u8, Parts> for Freeze<K> {
 /// A kind of step that loads the word and leaves it.
 pub(crate) trait Kind {
     ghost use Rattle.std.specs.Prelude.{ℕ, List};
+    ghost use Rattle.seat_parts.specs.Seats.{Goes};
+    ghost use Rattle.front_rule.specs.Rule.{Sound};
     ghost use Rattle.front_rule.specs.declared.parts.Part.{Part};
+
+    /// With which parts it can be taken, where the history's first number is this.
+    ghost can: { ℕ → List Part → Type 0 };
 
     /// What it tells of the history's first number, the parts before, the word found and the parts after.
     ghost tells: { ℕ → List Part → ℕ → List Part → Type 0 };
+
+    /// It keeps the rule, and what it tells is so. This does nothing.
+    fn goes()
+        ensures { (first : ℕ) (v : List Part) → can first v → Goes (Sound first) v (λ n. n) (tells first v) };
 }
 
 /// A step of this kind.

@@ -28,7 +28,48 @@ fn remove<K: StoreName>(
     append(pen, leaf, pass, &entry)
 }
 
-// Two callers append an entry each, to a history whose first number is 5, and meet; one is told of a failure.
+// Each of two callers appends an entry, to a history whose first number is 5.
+fn both_append<K: StoreName>(
+    rt: &(impl Abort + AllocGlobal),
+    pen: &mut Pen<K>,
+    leaf: &mut LeafMark<K>,
+    a: &mut Pass<K>,
+    b: &mut Pass<K>,
+)
+    requires open { (leaf.old.memtable ≡ pen.old.memtable) × (leaf.old.low ≡ []) × (leaf.old.high ≡ None) }
+{
+    assert_eq!(rt; remove(rt, pen, leaf, a, b"x"), Ok(5));
+    assert_eq!(rt; remove(rt, pen, leaf, b, b"y"), Ok(6));
+    assert_eq!(rt; (a.front(), b.front()), (6, 7));
+}
+
+// One caller looks at the leaf and meets the other: both have then seen both entries.
+fn both_see<K: StoreName>(
+    rt: &(impl Abort + AllocGlobal),
+    leaf: &mut LeafMark<K>,
+    a: &mut Pass<K>,
+    b: &mut Pass<K>,
+) {
+    assert_eq!(rt; look(leaf, a), 7);
+    meet(a, b);
+    assert_eq!(rt; tell(a).front(), 7);
+    assert_eq!(rt; pin(b).front(), 7);
+}
+
+// One caller is told of a failure and sees all that there is; then both end.
+fn both_end<K: StoreName>(
+    rt: &(impl Abort + AllocGlobal),
+    pen: &mut Pen<K>,
+    a: Pass<K>,
+    mut b: Pass<K>,
+) {
+    failed(pen, &mut b);
+    assert_eq!(rt; catch_up(pen, &mut b), 7);
+    end(pen, a);
+    end(pen, b);
+    assert_eq!(rt; note(pen).front(), 7);
+}
+
 fn two_entries<K: StoreName>(rt: &(impl Abort + AllocGlobal), blank: FrontBlank) -> Result<(), Fail>
     requires { (blank.table ≡ K.table) × (blank.origin.first ≡ K.first) × (K.callers ≡ 2) }
 {
@@ -41,22 +82,69 @@ fn two_entries<K: StoreName>(rt: &(impl Abort + AllocGlobal), blank: FrontBlank)
     } = Front::<K>::make(rt.alloc(), blank, 2)?;
     let mut b = passes.pop().expect(rt, "caller 1");
     let mut a = passes.pop().expect(rt, "caller 0");
-    assert_eq!(rt; remove(rt, &mut pen, &mut leaf, &mut a, b"x"), Ok(5));
-    assert_eq!(rt; remove(rt, &mut pen, &mut leaf, &mut b, b"y"), Ok(6));
-    assert_eq!(rt; (a.front(), b.front()), (6, 7));
-    assert_eq!(rt; look(&mut leaf, &mut a), 7);
-    meet(&mut a, &mut b);
-    assert_eq!(rt; tell(&mut a).front(), 7);
-    assert_eq!(rt; pin(&mut b).front(), 7);
-    failed(&mut pen, &mut b);
-    assert_eq!(rt; catch_up(&mut pen, &mut b), 7);
-    end(&mut pen, a);
-    end(&mut pen, b);
-    assert_eq!(rt; note(&mut pen).front(), 7);
+    both_append(rt, &mut pen, &mut leaf, &mut a, &mut b);
+    both_see(rt, &mut leaf, &mut a, &mut b);
+    both_end(rt, &mut pen, a, b);
     Ok(())
 }
 
-// Memtable 3 ends at once and memtable 4 begins; its leaf is cut at a key. Then the compactor's numbers rise.
+// Memtable 3 ends at once, and memtable 4 begins; the answer is a mark over all its keys, and the note of its base.
+fn next_begins<K: StoreName>(
+    rt: &(impl Abort + AllocGlobal),
+    pen: &mut Pen<K>,
+    leaf: &mut LeafMark<K>,
+    desk: &Desk<K>,
+) -> (LeafMark<K>, FrontNote<K>)
+    requires third { (pen.old.memtable ≡ 3) × (leaf.old.memtable ≡ 3) }
+    ensures all_keys { (result.0.low ≡ []) × (result.0.high ≡ None) }
+{
+    assert_eq!(rt; (pen.memtable(), leaf.memtable()), (3, 3));
+    let upto = note(pen).front();
+    settled(pen, upto);
+    let (from, mut next) = freeze(pen, 4);
+    assert_eq!(rt; from, 5);
+    let mut base = base_note(desk, &mut next);
+    assert_eq!(rt; (base.front(), base.memtable()), (5, 4));
+    ended(desk, leaf, &mut base);
+    (next, base)
+}
+
+// The leaf of memtable 4 is cut at a key, and a pass learns that the memtable has begun.
+#[tactic(auto, using(crate::proofs::KeyLemmas::in_range_all))]
+fn leaf_is_cut<K: StoreName>(
+    rt: &(impl Abort + AllocGlobal),
+    next: (LeafMark<K>, FrontNote<K>),
+    desk: &Desk<K>,
+    pass: &mut Pass<K>,
+)
+    requires all_keys { (next.0.low ≡ []) × (next.0.high ≡ None) }
+{
+    let (mut left, base) = next;
+    let at = Key::try_new(rt.alloc(), b"m").expect(rt, "memory");
+    let right = part(desk, &mut left, &at);
+    assert_eq!(rt; (left.memtable(), right.memtable()), (4, 4));
+    learn(pass, base);
+    assert_eq!(rt; pass.memtable(), 4);
+}
+
+// The keeper's numbers rise from 2 and 7, and pen and pass are told.
+fn numbers_rise<K: StoreName>(
+    rt: &(impl Abort + AllocGlobal),
+    keeper: &mut Keeper<K>,
+    desk: &Desk<K>,
+    pen: &mut Pen<K>,
+    pass: &mut Pass<K>,
+)
+    requires { (keeper.old.live ≡ 2) × (keeper.old.next ≡ 7) }
+{
+    let kept = keep(keeper, desk, 8, 9);
+    assert_eq!(rt; (kept.live(), kept.next()), (8, 9));
+    release_mark(pen, kept);
+    let kept = keep(keeper, desk, 8, 10);
+    learn_next(pass, kept);
+    live_meet(pen, keeper);
+}
+
 fn next_memtable<K: StoreName>(
     rt: &(impl Abort + AllocGlobal),
     blank: FrontBlank,
@@ -64,34 +152,17 @@ fn next_memtable<K: StoreName>(
     requires name { (blank.table ≡ K.table) × (blank.origin.first ≡ K.first) × (K.callers ≡ 1) }
     requires origin { blank.origin ≡ record { first = 5; memtable = 3; live = 2; next = 7 } }
 {
-    let alloc = rt.alloc();
     let FrontParts {
         mut pen,
         mut leaf,
         mut passes,
         mut keeper,
         desk,
-    } = Front::<K>::make(alloc, blank, 1)?;
+    } = Front::<K>::make(rt.alloc(), blank, 1)?;
     let mut pass = passes.pop().expect(rt, "caller 0");
-    let at = Key::try_new(alloc, b"m").expect(rt, "memory");
-    assert_eq!(rt; (pen.memtable(), leaf.memtable()), (3, 3));
-    let upto = note(&mut pen).front();
-    settled(&mut pen, upto);
-    let (from, mut left) = freeze(&mut pen, 4);
-    assert_eq!(rt; from, 5);
-    let mut begun = base_note(&desk, &mut left);
-    assert_eq!(rt; (begun.front(), begun.memtable()), (5, 4));
-    ended(&desk, &mut leaf, &mut begun);
-    let right = part(&desk.try_copy()?, &mut left, &at);
-    assert_eq!(rt; (left.memtable(), right.memtable()), (4, 4));
-    learn(&mut pass, begun);
-    assert_eq!(rt; pass.memtable(), 4);
-    let kept = keep(&mut keeper, &desk, 8, 9);
-    assert_eq!(rt; (kept.live(), kept.next()), (8, 9));
-    release_mark(&mut pen, kept);
-    let kept = keep(&mut keeper, &desk, 8, 10);
-    learn_next(&mut pass, kept);
-    live_meet(&mut pen, &mut keeper);
+    let next = next_begins(rt, &mut pen, &mut leaf, &desk);
+    leaf_is_cut(rt, next, &desk.try_copy()?, &mut pass);
+    numbers_rise(rt, &mut keeper, &desk, &mut pen, &mut pass);
     Ok(())
 }
 

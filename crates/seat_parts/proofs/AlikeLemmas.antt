@@ -5,7 +5,7 @@ use mathlib.Core.Option.{some, some-injective, some-ne-none}
 use lib.ListN.{get_elem?}
 use Rattle.seat_parts.specs.Seats.{weigh, parts_of}
 
--- these three hold of lists as they hold of `rdb_base`'s, which stands above this crate
+-- these three are also among `rdb_base`'s lemmas: this crate and `rdb_base` are both at the bottom, and neither stands on the other
 all-append : {X : Type 0} (P : X → Type 0) (xs ys : List X) → AllByRecursion P xs → AllByRecursion P ys → AllByRecursion P (xs ++ ys)
 all-append P [] ys h g = g
 all-append P (x ∷ xs) ys h g = (h.0, all-append P xs ys h.1 g)

@@ -10,5 +10,5 @@ load-requires g c =
       c.requires.seat.0 ∙ sym here,
       words,
       Allows-step g.K.StoreName.first _ _ _ c.args.seat.now.me (λ n. n) (g.X.Kind.tells g.K.StoreName.first) 0 0 key c.requires.seat.1
-          c.requires.goes,
+          (c.goes.ensures g.K.StoreName.first c.args.seat.now.me.0 c.requires.can),
     )

@@ -1,5 +1,0 @@
-use Rattle.front_rule.proofs.LearnLemmas.{Goes-learn}
-use Rattle.front_rule.proofs.desk.Desk.learning.Goals as goal
-
-pub step-requires-clause-goes : goal.step-requires-clause-goes
-step-requires-clause-goes g c = Goes-learn g.K.StoreName.first c.args.seat.now.me.0 c.requires.can
