@@ -1,8 +1,9 @@
 //! Two callers of one history, each in a thread of its own: what a client of `front_rule` can promise.
 //!
-//! Stands for   the kernel of a store of several callers: the pen and one leaf's mark under a lock, a pass for each caller
-//! Promises     after both have ended there is one list with the rows of both, each once and in order, and nobody else's
-//!              (`specs/Callers.antt`, `HasBoth`)
+//! Stands for   the kernel of a store of several callers: the pen and one leaf's mark under a lock, and a pass for
+//!              each caller
+//! Promises     after both have ended there is one list with the rows of both, each once and in order, and nobody
+//!              else's (`specs/Callers.antt`, `HasBoth`)
 //! Goes in      the rows that each caller puts
 //! Comes out    the number after the last entry's; None where memory or numbers ran out
 //! Stands on    rdb_base, front_rule

@@ -17,7 +17,9 @@ pub(crate) fn put_row<K: StoreName, R: Wait>(
     pass: &mut Pass<K>,
     row: &Row,
 ) -> Option<u64>
-    ensures own { OnSome result (pass.new.own ≡ pass.old.own ++ entry_of pass.old row.now.key (Put row.now.value) ∷ []) }
+    ensures own { OnSome result (
+        pass.new.own ≡ pass.old.own ++ entry_of pass.old row.now.key (Put row.now.value) ∷ []
+        ) }
     ensures caller { pass.new.caller ≡ pass.old.caller }
 {
     let key = row.key.try_copy(alloc).ok()?;

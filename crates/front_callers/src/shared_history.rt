@@ -47,7 +47,8 @@ impl<K: StoreName> SharedHistory<K> {
         pen
     }
 
-    /// Appends one more entry of the pass's caller, and answers its number. None, and the same history, if no number is left.
+    /// Appends one more entry of the pass's caller, and answers its number. None, and the same history, if no number
+    /// is left.
     #[tactic(auto, using(front_rule::proofs::KeyLemmas::in_range_all))]
     pub fn put(&mut self, pass: &mut Pass<K>, key: Key, change: Change) -> Option<u64>
         ensures number { IfSome result (λ n. n ≡ K.first + length self.old.list) }

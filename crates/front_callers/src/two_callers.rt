@@ -42,8 +42,8 @@ fn put_both<K: StoreName + Send + Sync, R: Threads + Wait + Sync>(
     Some((a?, b?))
 }
 
-/// Makes the history of this name, lets both callers put their rows at once, each in a thread of its own, and ends both. The
-/// answered pen has the one list.
+/// Makes the history of this name, lets both callers put their rows at once, each in a thread of its own, and ends
+/// both. The answered pen has the one list.
 ///
 /// None if memory or numbers ran out.
 pub fn run_both<K: StoreName + Send + Sync, R: Threads + Wait + Sync>(
@@ -82,14 +82,17 @@ fn run_named<K: StoreName + Send + Sync, R: Threads + Wait + Sync>(
     second: &[Row],
 ) -> Option<u64>
     requires name { (blank.table ≡ K.table) × (blank.origin.first ≡ K.first) × (K.callers ≡ 2) }
-    ensures { IfSome result (λ n. (list : List Entry) × HasBoth list first.now second.now × (n ≡ blank.origin.first + length list)) }
+    ensures { IfSome result (λ n.
+        (list : List Entry) × HasBoth list first.now second.now × (n ≡ blank.origin.first + length list)
+        ) }
 {
     let mut pen = run_both::<K, R>(rt, alloc, blank, first, second)?;
     Some(note(&mut pen).front())
 }
 
-/// Two callers put their rows at once, each in a thread of its own, into a history whose first number is 0. The answer is
-/// the number after the last entry's: there is one list, with the rows of both, each once and in order, and nobody else's.
+/// Two callers put their rows at once, each in a thread of its own, into a history whose first number is 0. The
+/// answer is the number after the last entry's: there is one list, with the rows of both, each once and in order, and
+/// nobody else's.
 ///
 /// None if memory or numbers ran out.
 pub fn run_two_callers<R: Threads + Wait + Sync>(

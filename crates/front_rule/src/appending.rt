@@ -46,7 +46,9 @@ pub fn append<K: StoreName>(
     ensures own { OnOk result (calls_of pen.new.list pass.old.caller ≡ pass.new.own) }
     ensures upto { OnOk result (IsPrefix pass.old.seen pen.old.list) }
     ensures begins { OnOk result (IsPrefix leaf.old.list pen.old.list) }
-    ensures range { OnOk result (entries_in leaf.old leaf.new.list ≡ entries_in leaf.old leaf.old.list ++ entry.now ∷ []) }
+    ensures range { OnOk result (
+        entries_in leaf.old leaf.new.list ≡ entries_in leaf.old leaf.old.list ++ entry.now ∷ []
+        ) }
     ensures open_bases { OnOk result (leaf.old.bases ≡ pen.old.bases) }
     ensures forward { IsPrefix pass.old.seen pass.new.seen }
     ensures pass_bases { GoesOn pass.old.memtable pass.old.bases pass.new.memtable pass.new.bases }
@@ -62,7 +64,8 @@ pub fn append<K: StoreName>(
     Ok(append_told::<K, Brand>(pen, leaf, pass, entry))
 }
 
-// The same below the end of the numbers, told of the entry: joins leaf and pass to the pen, takes the step, cuts them off.
+// The same below the end of the numbers, told of the entry: joins leaf and pass to the pen, takes the step, cuts them
+// off.
 fn append_told<K: StoreName, E: TellsEntry>(
     pen: &mut Pen<K>,
     leaf: &mut LeafMark<K>,
@@ -71,7 +74,7 @@ fn append_told<K: StoreName, E: TellsEntry>(
 ) -> u64
     requires told { entry.now ≡ E.entry }
     requires can { CanAppend K.first E.entry (three pen.old leaf.old pass.old) }
-    ensures appends { Appends K.first E.entry (three pen.old leaf.old pass.old) result (three pen.new leaf.new pass.new) }
+    ensures added { Appends K.first E.entry (three pen.old leaf.old pass.old) result (three pen.new leaf.new pass.new) }
 {
     let desk = &pen.desk;
     desk.join(&mut pen.seat, &mut leaf.badge);

@@ -20,12 +20,13 @@ use std::sync::Arc;
 /// The table of a history's word, as it is shared.
 pub(crate) type Board = Arc<Table<u8, Parts, Origin, FrontRule, Global>, Global>;
 
-/// A share of the table of the history's word. A pen and a pass hold one. Who has a mark, a note or the keeper is lent one.
+/// A share of the table of the history's word. A pen and a pass hold one. Who has a mark, a note or the keeper is
+/// lent one.
 ///
 /// # Threads
 ///
-/// Any thread may use a share at any time: what it does is one load of the word, or one addition to it, at a time. Which
-/// values are changed together is what the callers' locks see to.
+/// Any thread may use a share at any time: what it does is one load of the word, or one addition to it, at a time.
+/// Which values are changed together is what the callers' locks see to.
 #[derive(Drop)]
 pub struct Desk<K: StoreName> {
     pub(crate) board: Board,
@@ -38,7 +39,9 @@ pub struct Desk<K: StoreName> {
 impl<K: StoreName> Desk<K> {
     /// One more share of the same table.
     pub fn try_copy(&self) -> Result<Desk<K>, NoMemory>
-        ensures same { IfOk result (λ desk. (arc_value desk.board).shared.table_id ≡ (arc_value self.now.board).shared.table_id) }
+        ensures same { IfOk result (λ desk.
+            (arc_value desk.board).shared.table_id ≡ (arc_value self.now.board).shared.table_id
+            ) }
     {
         Ok(Desk {
             board: Arc::try_clone(&self.board)?,

@@ -47,7 +47,9 @@ impl FrontBlank {
     ) -> Result<FrontBlank, NoMemory>
         requires memtable { memtable ≤ first }
         requires first { first ≤ 2 ^ 62 }
-        ensures { IfOk result (λ b. b.origin ≡ record { first = first; memtable = memtable; live = live; next = next }) }
+        ensures { IfOk result (λ b.
+            b.origin ≡ record { first = first; memtable = memtable; live = live; next = next }
+            ) }
     {
         let origin = Origin {
             first,

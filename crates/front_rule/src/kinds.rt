@@ -1,5 +1,5 @@
-//! The kinds of steps that load the word and leave it, in the order of `specs/Steps.antt`. A kind is a type without values:
-//! it says which parts such a step needs, what it makes of them and tells, and that this keeps the rule.
+//! The kinds of steps that load the word and leave it, in the order of `specs/Steps.antt`. A kind is a type without
+//! values: it says which parts such a step needs, what it makes of them and tells, and that this keeps the rule.
 use crate::plays::Kind;
 use crate::told::{TellsKey, TellsNumber, TellsNumbers};
 use std::marker::PhantomData;

@@ -51,8 +51,8 @@ pub fn meet<K: StoreName>(a: &mut Pass<K>, b: &mut Pass<K>)
     learn(a, tell(b));
 }
 
-/// The pass sees what the leaf has seen; the answer is the pass's front, which has not fallen. Unless the pass knew of a
-/// later memtable, the leaf has all entries of its range that the pass has then seen.
+/// The pass sees what the leaf has seen; the answer is the pass's front, which has not fallen. Unless the pass knew
+/// of a later memtable, the leaf has all entries of its range that the pass has then seen.
 pub fn look<K: StoreName>(leaf: &mut LeafMark<K>, pass: &mut Pass<K>) -> u64
     ensures leaf { leaf.new ≡ leaf.old }
     ensures pass { pass.new ≡ learnt pass.old (note_of_leaf leaf.old) }

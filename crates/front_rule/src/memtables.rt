@@ -71,8 +71,8 @@ fn part_told<K: StoreName, E: TellsKey>(
     }
 }
 
-/// Shows, by a note of a later memtable, that the leaf's memtable has ended: the leaf has all entries of its range in the
-/// note's list up to the end of its memtable, which is the base of the next one.
+/// Shows, by a note of a later memtable, that the leaf's memtable has ended: the leaf has all entries of its range in
+/// the note's list up to the end of its memtable, which is the base of the next one.
 pub fn ended<K: StoreName>(desk: &Desk<K>, leaf: &mut LeafMark<K>, later: &mut FrontNote<K>)
     requires { leaf.old.memtable < later.old.memtable }
     ensures same { (leaf.new ≡ leaf.old) × (later.new ≡ later.old) }

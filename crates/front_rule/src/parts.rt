@@ -12,8 +12,8 @@ pub struct PenPart {
     pub memtable: u64,
     /// The places at which the memtables begin, the open one's last.
     pub bases: LinkedList<u64>,
-    /// The place below which the log has all entries for good, as its holder said: it is the greatest that `settled` was
-    /// told. No clause here speaks of the log.
+    /// The place below which the log has all entries for good, as its holder said: it is the greatest that `settled`
+    /// was told. No clause here speaks of the log.
     pub safe: u64,
     /// The number of the first segment of the log that is still needed.
     pub live: u64,

@@ -8,8 +8,9 @@ use crate::store_name::StoreName;
 use atomic_table::Badge;
 use std::marker::Model;
 
-/// The seat of one caller: it knows what the caller has seen, and the caller's own calls. A call, here and in `calls_of`, is
-/// an update that stands in the list as an entry: a read is none. Contracts see a pass as what it knows.
+/// The seat of one caller: it knows what the caller has seen, and the caller's own calls. A call, here and in
+/// `calls_of`, is an update that stands in the list as an entry: a read is none. Contracts see a pass as what it
+/// knows.
 ///
 /// # Threads
 ///
@@ -42,8 +43,8 @@ impl<K: StoreName> Model for Pass<K> {
 }
 
 impl<K: StoreName> Pass<K> {
-    /// The number after the last entry's that it has seen. A crate above learns here what holds of every pass: the front
-    /// is within the numbers, and its caller's calls in what it has seen are its own.
+    /// The number after the last entry's that it has seen. A crate above learns here what holds of every pass: the
+    /// front is within the numbers, and its caller's calls in what it has seen are its own.
     pub fn front(&self) -> u64
         ensures front { result ≡ K.first + length self.now.seen }
         ensures within { result ≤ 2 ^ 62 }

@@ -9,8 +9,8 @@ use crate::store_name::StoreName;
 use crate::told::TellsNumber;
 use std::marker::Brand;
 
-/// The caller says that the log has all entries below `upto` for good. The pen's safe position is then not below `upto`,
-/// and not past the list's end.
+/// The caller says that the log has all entries below `upto` for good. The pen's safe position is then not below
+/// `upto`, and not past the list's end.
 ///
 /// Nothing here looks at the log: that the caller's word is true is for the crate that has both the pen and the log.
 pub fn settled<K: StoreName>(pen: &mut Pen<K>, upto: u64)

@@ -6,9 +6,9 @@ use std::marker::Brand;
 /// Names one history: which one it is that a seat, a log or a store speaks of. It has no function; contracts alone see
 /// its members.
 ///
-/// Each type that holds a seat has a parameter `K: StoreName`. So two values with one `K` are of one history, even where
-/// they come from under different locks. A program first recovers, and then calls a function that is generic in `K`; for
-/// that call `K` is `Brand`, whose members stand for what was recovered.
+/// Each type that holds a seat has a parameter `K: StoreName`. So two values with one `K` are of one history, even
+/// where they come from under different locks. A program first recovers, and then calls a function that is generic in
+/// `K`; for that call `K` is `Brand`, whose members stand for what was recovered.
 pub trait StoreName {
     ghost use Rattle.atomic_table.specs.Seated.{TableId};
     ghost use Rattle.rdb_base.specs.declared.row.Row.{Row};

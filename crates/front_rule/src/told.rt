@@ -1,5 +1,5 @@
-//! What a step is told beside what its seat knows. A step takes no value: its caller picks a type whose one ghost member
-//! stands for the value.
+//! What a step is told beside what its seat knows. A step takes no value: its caller picks a type whose one ghost
+//! member stands for the value.
 use std::marker::Brand;
 
 /// An entry.

@@ -1,7 +1,7 @@
-//! Lemmas for seats over one word whose views are lists of parts: what a rule over all parts needs so that steps, splits and joins keep it.
+//! Lemmas for tokens at one shared word, of which each knows a list of parts: how a rule over all parts is kept.
 //!
-//! Stands for   a table of one word of the kit's `atomic_table`, at which each seat knows a list of parts, and a rule over
-//!              the word and the parts of all seats (`specs/Seats.antt`, `Holds`)
+//! Stands for   a table of one word of the kit's `atomic_table`, at which each seat knows a list of parts, and a rule
+//!              over the word and the parts of all seats (`specs/Seats.antt`, `Holds`)
 //! Promises     a step, a split or a join keeps the rule where one fact on plain lists holds: these parts may become
 //!              those, whatever the parts of the other seats are (`Goes`, `Becomes`)
 //! Goes in      a rule, and the proof that it does not see in which order the parts come (`Alike`)
@@ -11,5 +11,6 @@
 //! Leaves open  what the parts are and what the rule says: `front_rule` has one
 //!
 //! A word is a number that threads share and change in single steps. A seat is a token of one thread, which a step
-//! needs; its view is what the thread knows, and is there in proofs alone. The crate has no code.
+//! needs; what it knows is there in proofs alone. A step may change the word and what its seat knows. A split gives some
+//! of a seat's parts to a new seat, and a join puts the parts of two seats together. The crate has no code.
 #![tactic(auto)]
