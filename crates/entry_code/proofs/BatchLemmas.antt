@@ -1,8 +1,8 @@
 -- The bytes of a batch.
-use Rattle.std.proofs.Common.{◌≡◌, ℕ, zero, suc, ◌+◌, ◌^◌, ◌<◌, ◌≤◌, Bool, false, List, [], ◌∷◌, ◌++◌, length, drop, refl, sym, ap, subst, ◌∙◌, append_assoc, arith}
+use Rattle.std.proofs.Common.{◌≡◌, ℕ, zero, suc, ◌+◌, ◌-◌, ◌^◌, ◌<◌, ◌≤◌, Bool, false, List, [], ◌∷◌, ◌++◌, length, drop, refl, sym, ap, subst, ◌∙◌, append_assoc, arith}
 use Rattle.std.proofs.lemmas.List.{length-append, length-drop, append-nil, nil_from_length}
 use Rattle.std.proofs.Common.{inl, inr}
-use Rattle.std.proofs.lemmas.Bool.{cases_lt, lt-ltb}
+use Rattle.std.proofs.lemmas.Bool.{cases_lt, le-ltb, lt-ltb}
 use Rattle.rdb_base.specs.declared.entry.Entry.{Entry}
 use Rattle.rdb_base.specs.PairFields.{pair_field}
 use Rattle.entry_code.specs.Laws.{IsEntryWithin, AreEntriesWithin}
@@ -96,6 +96,13 @@ room_some capacity len n some room =
       | inl few ↦ let none : room_in capacity len ≡ 0 = rw (lt-ltb _ _ few) refl in absurd (omega (arith, some, room, none))
       | inr le ↦ le
     ]
+
+-- what is added uses up no more room than its length
+pub room-left : (capacity more len n : ℕ) → 13 ≤ len → capacity ≤ more → room_in capacity len ≤ room_in more (len + n) + n
+room-left capacity more len n head le =
+    let old : room_in capacity len ≡ capacity - len = rw (le-ltb len 13 head) refl in
+    let new : room_in more (len + n) ≡ more - (len + n) = rw (le-ltb (len + n) 13 (omega (arith, head))) refl in
+    omega (arith, old, new, le)
 
 -- one entry more is added, and one fewer is left
 pub added_next : (old new : List ℕ) (entry : Entry) (rest more : List Entry) (whole : List ℕ) → rest ≡ entry ∷ more → new ≡ old ++ entry_field entry → old ++ entry_fields rest ≡ whole → new ++ entry_fields more ≡ whole

@@ -1,5 +1,5 @@
 -- Entries are read one after the other, and what is spelled is read back.
-use Rattle.std.proofs.Common.{◌≡◌, ℕ, suc, ◌+◌, ◌^◌, ◌<◌, ◌≤◌, true, false, eqb, ltb, List, [], ◌∷◌, ◌++◌, length, Result, Ok, Err, refl, sym, ap, ◌∙◌, append_assoc, arith}
+use Rattle.std.proofs.Common.{◌≡◌, ℕ, zero, suc, ◌+◌, ◌^◌, ◌<◌, ◌≤◌, true, false, eqb, ltb, List, [], ◌∷◌, ◌++◌, length, Result, Ok, Err, IsOk, refl, sym, ap, subst, ◌∙◌, append_assoc, arith}
 use Rattle.std.specs.Int.{w8, w32, w64, from_be_bytes, to_be_bytes}
 use Rattle.std.proofs.lemmas.Bool.{le-ltb}
 use Rattle.std.proofs.lemmas.Bool.Decides.{nat_tests}
@@ -10,7 +10,7 @@ use Rattle.rdb_base.specs.PairFields.{◌>>=◌, number_at, pair_field, placed}
 use Rattle.rdb_base.proofs.PairLemmas.{number_again, wide32, wide64, pair_again}
 use Rattle.entry_code.specs.declared.field_error.FieldError.{FieldError}
 use Rattle.entry_code.specs.declared.field_error.FieldError.TheVariants as fields
-use Rattle.entry_code.specs.Answers.{FailsField}
+use Rattle.entry_code.specs.Answers.{FailsField, IfFieldMemory}
 use Rattle.entry_code.specs.Laws.{IsEntryWithin, AreEntriesWithin, HeaderReadsBack, EntriesReadBack}
 use Rattle.entry_code.specs.Payloads.{header_payload, entry_numbers, entry_field, entry_fields, entries_payload, kind_at, header_fields, entry_at, entries_at, entries_fields}
 
@@ -42,6 +42,15 @@ after-end done bytes = ap (λ (l : List Entry). Ok (l, bytes)) (append-nil done)
 pub fails-after : (error : FieldError) (done : List Entry) (n : ℕ) (bytes : List ℕ) (whole : Result (List Entry × List ℕ) ℕ) → FailsField error (entry_at bytes) → whole ≡ after done (entries_at (suc n) bytes) → FailsField error whole
 fails-after (fields.Bad left) done n bytes whole fails e = e ∙ after-stop done n bytes left fails
 fails-after fields.Memory done n bytes whole fails e = tt
+
+-- the first entry is whole where the entry that is read after others is, since these were read
+pub first_read : (place : ℕ) (rest bytes : List ℕ) → (place ≡ 0 → rest ≡ bytes) → (0 < place → IsOk (entry_at bytes)) → IsOk (entry_at rest) → IsOk (entry_at bytes)
+first_read zero rest bytes begins first whole = subst (λ (l : List ℕ). IsOk (entry_at l)) (begins refl) whole
+first_read (suc n) rest bytes begins first whole = first (omega arith)
+
+pub memory-so : (error : FieldError) (P Q : Type 0) → (P → Q) → IfFieldMemory error P → IfFieldMemory error Q
+memory-so (fields.Bad left) P Q so holds = tt
+memory-so fields.Memory P Q so holds = so holds
 
 -- ---- what is spelled is read back
 

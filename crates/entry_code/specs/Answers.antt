@@ -15,6 +15,16 @@ abbrev pub GivesFields : {X Y : Type 0} → (X → Y) → Result X FieldError �
 GivesFields view (Ok x) read = read ≡ Ok (view x)
 GivesFields view (Err e) read = FailsField e read
 
+-- this holds where a field is refused for want of memory
+abbrev pub IfFieldMemory : FieldError → Type 0 → Type 0
+IfFieldMemory fields.Memory P = P
+IfFieldMemory (fields.Bad left) P = Unit {0}
+
+-- this holds where a payload is refused for want of memory
+abbrev pub IfMemory : EntryError → Type 0 → Type 0
+IfMemory places.Memory P = P
+IfMemory (places.BadEntry at) P = Unit {0}
+
 -- a payload that is refused is wrong at that place, or there was no memory
 abbrev pub FailsAt : {Y : Type 0} → EntryError → Result Y ℕ → Type 0
 FailsAt places.Memory read = Unit {0}
@@ -25,7 +35,7 @@ abbrev pub GivesPayload : {X Y : Type 0} → (X → Y) → Result X EntryError �
 GivesPayload view (Ok x) read = read ≡ Ok (view x)
 GivesPayload view (Err e) read = FailsAt e read
 
--- a refusal tells a place: memory was not needed
+-- a refusal names a place: memory was not needed
 abbrev pub TellsPlace : EntryError → Type 0
 TellsPlace places.Memory = ⊥
 TellsPlace (places.BadEntry at) = Unit {0}

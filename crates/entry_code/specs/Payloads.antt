@@ -87,6 +87,17 @@ entries_fields bytes = do
     entries ← entries_at count.0 count.1
     ended (record { first = first.0; entries = entries.0 }) entries.1
 
+-- the first entry of a payload of entries, or how many bytes are left from the first wrong field on: no field after it is
+-- looked at
+unfoldable pub first_entry : List ℕ → Result Entry ℕ
+first_entry bytes = do
+  rest ← kind_at ENTRIES_KIND bytes
+  first ← number_at w64 rest
+  count ← number_at w32 first.1
+  if count.0 == 0 then Err (length first.1) else if nat_lt NUMBER_MAX (first.0 + count.0) then Err (length first.1) else do
+    one ← entry_at count.1
+    Ok one.0
+
 -- the header that a payload is, or the place of the first wrong byte
 abbrev pub header_of : List ℕ → Result Header ℕ
 header_of bytes = placed bytes (header_fields bytes)

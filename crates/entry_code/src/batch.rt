@@ -76,7 +76,7 @@ impl Batch {
         Ok(())
     }
 
-    /// One entry more.
+    /// One entry more. It uses up no more room than its bytes.
     pub fn push(&mut self, entry: &Entry)
         requires here { self.old.lent ≡ false }
         requires room { length (entry_field entry.now) ≤ self.old.room }
@@ -84,6 +84,7 @@ impl Batch {
         requires end { self.old.first + length self.old.entries < NUMBER_MAX }
         ensures first { self.new.first ≡ self.old.first }
         ensures entries { self.new.entries ≡ self.old.entries ++ entry.now ∷ [] }
+        ensures left { self.old.room ≤ self.new.room + length (entry_field entry.now) }
         ensures fields { length (entry_fields self.new.entries) ≤ length (entry_fields self.old.entries) + ENTRY_MAX }
         ensures here { self.new.lent ≡ false }
     {

@@ -1,6 +1,6 @@
-ghost use Rattle.std.specs.Prelude.{◌≡◌, ◌+◌, ◌^◌, ◌≤◌, length, Ok, IfOk, IfErr};
-ghost use Rattle.entry_code.specs.Answers.{GivesFields, GivesPayload, TellsPlace};
-ghost use Rattle.entry_code.specs.Payloads.{kind_at, header_fields, entry_at, entries_at, entries_fields, header_of, entries_of};
+ghost use Rattle.std.specs.Prelude.{◌≡◌, ◌+◌, ◌^◌, ◌<◌, ◌≤◌, length, Ok, IsOk, IfOk, IfErr};
+ghost use Rattle.entry_code.specs.Answers.{GivesFields, GivesPayload, IfFieldMemory, IfMemory, TellsPlace};
+ghost use Rattle.entry_code.specs.Payloads.{kind_at, header_fields, entry_at, entries_at, entries_fields, first_entry, header_of, entries_of};
 ghost use Rattle.rdb_base.specs.PairFields.{GivesField, lent_change};
 ghost use Rattle.rdb_base.specs.declared.limits.TheConstants.{NUMBER_MAX};
 
@@ -72,7 +72,8 @@ fn owned(alloc: Global, change: LentChange<'_>) -> Result<Change, FieldError>
 
 #[tactic(auto, unfolding(crate::specs::Payloads::entry_at))]
 fn entry_of(alloc: Global, bytes: &[u8]) -> Result<(Entry, &[u8]), FieldError>
-    ensures { GivesFields (λ x. (x.0, x.1.now)) result (entry_at bytes.now) }
+    ensures exact { GivesFields (λ x. (x.0, x.1.now)) result (entry_at bytes.now) }
+    ensures memory { IfErr result (λ error. IfFieldMemory error (IsOk (entry_at bytes.now))) }
 {
     let (caller, rest) = u32_at(bytes)?;
     let (ordinal, rest) = u64_at(rest)?;
@@ -99,6 +100,7 @@ fn entry_of(alloc: Global, bytes: &[u8]) -> Result<(Entry, &[u8]), FieldError>
 fn entries_after(alloc: Global, count: u32, bytes: &[u8]) -> Result<(Vec<Entry>, &[u8]), FieldError>
     ensures exact { GivesFields (λ x. (x.0.items, x.1.now)) result (entries_at count bytes.now) }
     ensures many { IfOk result (λ x. length x.0.items ≡ count) }
+    ensures memory { IfErr result (λ error. IfFieldMemory error (IsOk (entry_at bytes.now))) }
 {
     let mut entries = Vec::new(alloc);
     let mut rest = bytes;
@@ -116,10 +118,11 @@ fn entries_after(alloc: Global, count: u32, bytes: &[u8]) -> Result<(Vec<Entry>,
     Ok((entries, rest))
 }
 
-#[tactic(auto, unfolding(crate::specs::Payloads::entries_fields))]
+#[tactic(auto, unfolding(crate::specs::Payloads::entries_fields, crate::specs::Payloads::first_entry))]
 fn entries_from(alloc: Global, bytes: &[u8]) -> Result<(u64, Vec<Entry>), FieldError>
     ensures exact { GivesFields (λ x. record { first = x.0; entries = x.1.items }) result (entries_fields bytes.now) }
     ensures within { IfOk result (λ x. x.0 + length x.1.items ≤ NUMBER_MAX) }
+    ensures memory { IfErr result (λ error. IfFieldMemory error (IsOk (first_entry bytes.now))) }
 {
     let rest = kind_of(ENTRIES_KIND, bytes)?;
     let (first, rest) = u64_at(rest)?;
@@ -137,10 +140,12 @@ fn entries_from(alloc: Global, bytes: &[u8]) -> Result<(u64, Vec<Entry>), FieldE
     Ok((first, entries))
 }
 
-/// The entries of a payload, and the number of the first.
+/// The entries of a payload, and the number of the first. Memory is asked for only once a whole entry was found in the
+/// bytes.
 pub fn decode_entries(alloc: Global, payload: &[u8]) -> Result<(u64, Vec<Entry>), EntryError>
     ensures exact { GivesPayload (λ x. record { first = x.0; entries = x.1.items }) result (entries_of payload.now) }
     ensures within { IfOk result (λ x. x.0 + length x.1.items ≤ NUMBER_MAX) }
+    ensures memory { IfErr result (λ error. IfMemory error (IsOk (first_entry payload.now))) }
 {
     match entries_from(alloc, payload) {
         Ok(found) => Ok(found),

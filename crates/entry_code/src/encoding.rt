@@ -56,6 +56,7 @@ pub(crate) fn add_reserved(out: &mut Vec<u8>, entry: &Entry)
     requires { length out.old.items + length (entry_field entry.now) ≤ vec_capacity out.old }
     ensures items { out.new.items ≡ out.old.items ++ entry_field entry.now }
     ensures most { length (entry_field entry.now) ≤ ENTRY_MAX }
+    ensures capacity { vec_capacity out.old ≤ vec_capacity out.new }
 {
     let _ = entry_len(entry);
     add_entry(out, entry).unwrap();
