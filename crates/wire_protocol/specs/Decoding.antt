@@ -4,6 +4,7 @@ use Rattle.std.specs.Io.KnownBytes.{prepend_known}
 use Rattle.history_core.specs.declared.request.Request.{Request}
 use Rattle.history_core.specs.declared.request.Request.TheVariants.{Quit}
 use Rattle.wire_protocol.specs.declared.codes.TheConstants as codes
+use Rattle.wire_protocol.specs.declared.limits.TheConstants.{LENGTH_SIZE}
 use Rattle.wire_protocol.specs.declared.wire_error.WireError.{WireError}
 use Rattle.wire_protocol.specs.declared.wire_error.WireError.TheVariants.{BadMessage, Memory}
 use Rattle.wire_protocol.specs.declared.body_error.BodyError.{BodyError}
@@ -25,7 +26,7 @@ code_of (Err code) = Some code
 abbrev pub refusal : List ℕ → Option ℕ
 refusal bytes =
     if is_refused_length (body_length bytes) then Some codes.BAD_LENGTH
-    else code_of (request_at (drop 4 bytes))
+    else code_of (request_at (drop LENGTH_SIZE bytes))
 
 -- the spelling of a request that holds bytes of its own
 abbrev pub SpellsHolding : List ℕ → Type 0
@@ -49,8 +50,8 @@ DecoderAnswer old (Err (BadMessage at code)) new =
 -- a message that is out of memory is dropped as if it had been read
 DecoderAnswer old (Err Memory) new = MessageAnswer (Err bodies.Memory) old.bytes × (new ≡ next_message old)
 
--- What came of a source's call: so many bytes went from the front of what is left to the end of what is held, no more than
--- the message lacked and no more than there was room for. None come only at the end of the input.
+-- What came of a source's call: so many bytes went from the front of what is left to the end of what is held, no more
+-- than the message lacked and no more than there was room for. None come only at the end of the input.
 pub record Takes (old : Held) (left : Option (List ℕ)) (new : Held) (left_now : Option (List ℕ))
     (room count : ℕ) : Type 0 where
   pub came : List ℕ

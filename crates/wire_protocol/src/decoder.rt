@@ -2,6 +2,7 @@
 ghost use Rattle.std.specs.Prelude.{◌≡◌, ◌+◌, ◌≤◌, ◌<◌, ◌^◌, ◌++◌, [], length, take, IfOk, OnErr, Ok, Some, None};
 ghost use Rattle.fault_count.specs.Causes.{HasCause};
 ghost use Rattle.link_model.specs.Streams.{OneFault};
+ghost use Rattle.wire_protocol.specs.declared.limits.TheConstants.{LENGTH_SIZE};
 ghost use Rattle.wire_protocol.specs.Messages.{wanted, body_length, IsWithin};
 ghost use Rattle.wire_protocol.specs.Decoding.{MessageAnswer, DecoderAnswer, Takes, next_message};
 
@@ -37,7 +38,7 @@ impl Model for Decoder {
 }
 
 fn length_of(bytes: &[u8]) -> usize
-    requires { 4 ≤ length bytes.now }
+    requires { LENGTH_SIZE ≤ length bytes.now }
     ensures { result ≡ body_length bytes.now }
 {
     u32::from_be_bytes([bytes[0], bytes[1], bytes[2], bytes[3]]) as usize
