@@ -90,6 +90,7 @@ put_failed_after from at n d old mid new h g =
           ∙ append_known-twice old.put (spell_replies h.answered) (take g.front (spell_replies g.said))
           ∙ ap (append_known old.put) (sym (take-append-add (spell_replies h.answered) (spell_replies g.said) g.front) ∙ ap (take (length (spell_replies h.answered) + g.front)) (sym (spell_replies-append h.answered g.said)));
       whole = omega (arith, but_last-append h.answered g.said, g.whole);
+      taken = taken_after h.answered g.answered g.said g.held g.front g.taken;
       count = omega (arith, h.count, g.count, length-append h.answered g.said);
       most = omega (arith, g.most, h.place, ap length (spell_requests-append h.asked g.asked), length-append (spell_requests h.asked) (spell_requests g.asked));
     }
@@ -97,6 +98,14 @@ put_failed_after from at n d old mid new h g =
     quits_after : (first asked : List Request) (held : List ℕ) → NoQuit first → NoQuit asked ⊎ (EndsWithQuit asked × (held ≡ [])) → NoQuit (first ++ asked) ⊎ (EndsWithQuit (first ++ asked) × (held ≡ []))
     quits_after first asked held none (inl no_quit) = inl (all-append (λ (q : Request). is_quit q ≡ false) first asked none no_quit)
     quits_after first asked held none (inr ((front, is, no_quit), nothing)) = inr ((first ++ front, ap (λ (qs : List Request). first ++ qs) is ∙ sym (append_assoc first front (Quit ∷ [])), all-append (λ (q : Request). is_quit q ≡ false) first front none no_quit), nothing)
+
+    taken_after : (first answered said : List Reply) (held : List ℕ) (front : ℕ)
+        → (length said ≡ length answered → front < length (spell_replies said) → held ≡ [])
+        → length (first ++ said) ≡ length (first ++ answered)
+        → length (spell_replies first) + front < length (spell_replies (first ++ said)) → held ≡ []
+    taken_after first answered said held front taken same few = taken
+        (omega (arith, same, length-append first said, length-append first answered))
+        (omega (arith, few, ap length (spell_replies-append first said), length-append (spell_replies first) (spell_replies said)))
 
     said_after : (first : List Reply) (place other : ℕ) → other ≡ place → (held : List ℕ) (answered said : List Reply) → Decided other held answered said → Decided place held (first ++ answered) (first ++ said)
     said_after first place other same held answered said (inl (lacks, e)) = inl (lacks, ap (λ (rs : List Reply). first ++ rs) e)
@@ -134,6 +143,7 @@ failed_from from old new held asked answered d e quits count lacks most = record
   is_said = inl (lacks, refl);
   put_is = e.replies ∙ ap (append_known old.put) (sym (take_all (length (spell_replies answered)) (spell_replies answered) (omega arith)));
   whole = but_last-most answered;
+  taken = λ same few. absurd (omega (arith, few));
   count = count;
   most = most;
 }
@@ -172,6 +182,7 @@ flush_failed (Bad at code) from d old new ne (held, put, others, so_far, refused
           ∙ append_known-twice old.put (spell_replies answered) (spell_reply (BadMessage at code))
           ∙ ap (append_known old.put) (ap (λ (t : List ℕ). spell_replies answered ++ t) (sym (append-nil (spell_reply (BadMessage at code)))) ∙ sym (spell_replies-append answered (BadMessage at code ∷ [])) ∙ sym (take_all (length (spell_replies said)) (spell_replies said) (omega arith)));
       whole = but_last-most said;
+      taken = λ same few. absurd (omega (arith, few));
       count = omega (arith, count, so_far.count, length-append answered (BadMessage at code ∷ []));
       most = omega (arith, most, so_far.place);
     }

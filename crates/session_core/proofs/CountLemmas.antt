@@ -16,6 +16,7 @@ pub CountsRose-same : (before now told other : ℕ → ℕ) → ((device : ℕ) 
 CountsRose-same before now told other e c = record {
   later = c.later;
   each = λ device. omega (arith, e device, c.each device);
+  most = λ device. omega (arith, e device, c.most device);
   kept = λ device none. c.kept device (sym (e device) ∙ none);
 }
 
@@ -24,6 +25,7 @@ pub CountsRose-both : (a b c told more both : ℕ → ℕ) → ((device : ℕ) �
 CountsRose-both a b c told more both e f g = record {
   later = λ device. omega (arith, f.later device, g.later device);
   each = λ device. omega (arith, e device, f.each device, g.each device, f.later device, g.later device);
+  most = λ device. omega (arith, e device, f.most device, g.most device);
   kept = λ device none.
       let first : told device ≡ 0 = omega (arith, e device, none) in
       let second : more device ≡ 0 = omega (arith, e device, none) in
@@ -35,6 +37,7 @@ pub CountsRose-none : (before now told : ℕ → ℕ) → ((device : ℕ) → to
 CountsRose-none before now told none same = record {
   later = λ device. omega (arith, same device);
   each = λ device. omega (arith, same device, none device);
+  most = λ device. omega (arith, same device);
   kept = λ device z. same device;
 }
 

@@ -113,6 +113,7 @@ reply_failed old held new before after request reply front empty e p most a put 
       front = front;
       exchange = exchange_one before (with_put put_all (before_taking [] after)) request reply a.fits (request_came old held before.coming after.coming request empty e a.bytes ∙ ap (prepend_known (spell_request request)) (sym (prepend_known-nil after.coming))) (ap (append_known before.put) (append-nil (spell_reply reply))) a.answered;
       quits = one_quits request [] refl;
+      taken = λ same few. refl;
       is_said = inl (omega arith, refl);
       put_is = put ∙ ap (λ (t : List ℕ). append_known before.put (take front t)) (sym (append-nil (spell_reply reply)));
       whole = omega arith;
@@ -131,6 +132,7 @@ refusal_failed old held before after at code front empty e p most same refused s
       front = front;
       exchange = subst (λ (p : Option (List ℕ)). Exchange before (with_put p (before_taking held.bytes after)) [] []) (sym (append_known-nil before.put)) (unput old held before after empty e store);
       quits = inl tt;
+      taken = λ same few. absurd (omega (arith, same));
       is_said = inr (code, refused, ap (λ (place : ℕ). BadMessage place code ∷ []) (omega (arith, same, p)));
       put_is = put ∙ ap (λ (t : List ℕ). append_known before.put (take front t)) (sym (append-nil (spell_reply (BadMessage at code))));
       whole = omega arith;

@@ -71,7 +71,8 @@ NoQuit asked = AllByRecursion (λ request. is_quit request ≡ false) asked
 abbrev pub EndsWithQuit : List Request → Type 0
 EndsWithQuit asked = (front : List Request) × (asked ≡ front ++ Quit ∷ []) × NoQuit front
 
--- A session so far that began at a place of the input: where the next message begins, and how many replies were decided.
+-- A session so far that began at a place of the input: where the next message begins, and how many replies were
+-- decided.
 pub record SoFar (from : ℕ) (old new : Scene) (at decided : ℕ) : Type 0 where
   pub asked : List Request
   pub answered : List Reply
@@ -112,7 +113,7 @@ abbrev pub place_after : ℕ → List Request → List ℕ → ℕ
 place_after from asked held = from + length (spell_requests asked) + length held
 
 -- A session whose sink failed: a front of what was to be put is there, and in it each reply but the last. Nothing was
--- taken after a QUIT.
+-- taken after a QUIT, nor after a reply that was cut.
 pub record PutFailed (from : ℕ) (old new : Scene) (decided : ℕ) : Type 0 where
   pub asked : List Request
   pub answered : List Reply
@@ -125,6 +126,7 @@ pub record PutFailed (from : ℕ) (old new : Scene) (decided : ℕ) : Type 0 whe
   pub is_said : Decided (from + length (spell_requests asked)) held answered said
   pub put_is : new.put ≡ append_known old.put (take front (spell_replies said))
   pub whole : length (spell_replies (but_last said)) ≤ front
+  pub taken : length said ≡ length answered → front < length (spell_replies said) → held ≡ []
   pub count : decided ≡ length said
   pub most : place_after from asked held ≤ SESSION_MAX
 

@@ -3,7 +3,7 @@ use Rattle.std.specs.Prelude.{◌≡◌, ◌≢◌, ℕ, ◌≤◌, List, Result
 use Rattle.rdb_base.specs.Maps.{value_at}
 use Rattle.history_core.specs.declared.limits.TheConstants.{DEVICE_MAX}
 use Rattle.disk_model.specs.Books.{BookName}
-use Rattle.fault_count.specs.Counts.{Rose}
+use Rattle.fault_count.specs.Counts.{RoseByOne}
 use Rattle.session_core.specs.declared.found.Found.{Found}
 use Rattle.session_core.specs.declared.update_error.UpdateError.{UpdateError}
 use Rattle.session_core.specs.declared.update_error.UpdateError.TheVariants.{DeviceFault, Memory}
@@ -18,7 +18,7 @@ PutAnswer old key value (Err error) new = new ≡ old
 abbrev pub SameCounts : (ℕ → ℕ) → (ℕ → ℕ) → Type 0
 SameCounts before now = (device : ℕ) → now device ≡ before device
 
--- A failure is told with a unit of the book of a device whose count rose in this call; no other count moved.
+-- A failure is told with a unit of the book of a device whose count rose by one in this call; no other count moved.
 abbrev pub PutCause : (ℕ → BookName) → (ℕ → ℕ) → (ℕ → ℕ) → Result ℕ UpdateError → Type 0
 PutCause books before now (Ok number) = SameCounts before now
 PutCause books before now (Err Memory) = SameCounts before now
@@ -26,7 +26,7 @@ PutCause books before now (Err (DeviceFault unit)) =
     (unit.device ≤ DEVICE_MAX)
     × (unit ≡ books unit.device)
     × (before unit.device ≤ now unit.device)
-    × Rose (before unit.device) (now unit.device)
+    × RoseByOne (before unit.device) (now unit.device)
     × ((device : ℕ) → device ≢ unit.device → now device ≡ before device)
 
 -- a get gives the map's number and the key's value, and changes nothing

@@ -23,11 +23,13 @@ abbrev pub told_by_all : ℕ → List Reply → ℕ
 told_by_all device [] = 0
 told_by_all device (reply ∷ replies) = told_by device reply + told_by_all device replies
 
--- Counts after so many failures of each device were told: each rose at least as often, or stands at its last value, and
--- none moved of which nothing was told.
+-- Counts after so many failures of each device were told: each rose just as often, or stands at its last value, and
+-- none
+-- moved of which nothing was told.
 pub record CountsRose (before now told : ℕ → ℕ) : Type 0 where
   pub later : (device : ℕ) → before device ≤ now device
   pub each : (device : ℕ) → min (before device + told device) (2 ^ 64 - 1) ≤ now device
+  pub most : (device : ℕ) → now device ≤ before device + told device
   pub kept : (device : ℕ) → told device ≡ 0 → now device ≡ before device
 
 -- these units are of the books of their devices

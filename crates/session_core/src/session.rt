@@ -2,7 +2,7 @@
 ghost use Rattle.std.specs.Prelude.{◌≡◌, ◌≢◌, ◌+◌, ◌≤◌, ◌<◌, [], vec_capacity, Some, None};
 ghost use Rattle.wire_protocol.specs.declared.limits.TheConstants.{REPLY_MAX};
 ghost use Rattle.wire_protocol.specs.Grammar.{spell_reply as reply_bytes};
-ghost use Rattle.fault_count.specs.Counts.{Rose};
+ghost use Rattle.fault_count.specs.Counts.{RoseByOne};
 ghost use Rattle.fault_count.specs.Causes.{HasCause};
 ghost use Rattle.link_model.specs.Streams.{PutsFront, OneFault};
 ghost use Rattle.session_core.specs.declared.limits.TheConstants.{SESSION_MAX};
@@ -58,10 +58,11 @@ fn turn<A: Answers, R: Source, W: Sink>(
     ensures books { AreOf A.books faults.new }
 
     ensures source_later { R.faults source.old ≤ R.faults source.new }
-    ensures source_failed { result ≡ Some SessionEnd.SourceFault → Rose (R.faults source.old) (R.faults source.new) }
+    ensures source_failed { result ≡ Some SessionEnd.SourceFault →
+        RoseByOne (R.faults source.old) (R.faults source.new) }
     ensures source_kept { result ≢ Some SessionEnd.SourceFault → R.faults source.new ≡ R.faults source.old }
     ensures sink_later { W.faults sink.old ≤ W.faults sink.new }
-    ensures sink_failed { result ≡ Some SessionEnd.SinkFault → Rose (W.faults sink.old) (W.faults sink.new) }
+    ensures sink_failed { result ≡ Some SessionEnd.SinkFault → RoseByOne (W.faults sink.old) (W.faults sink.new) }
     ensures sink_kept { result ≢ Some SessionEnd.SinkFault → W.faults sink.new ≡ W.faults sink.old }
 {
     if let Err(end) = take_message(&mut rooms.decoder, source) {
@@ -93,7 +94,7 @@ fn pass_on<W: Sink>(end: SessionEnd, sink: &mut W) -> SessionEnd
         (result ≡ SessionEnd.SinkFault) × (W.faults sink.new ≡ W.faults sink.old) }
     ensures later { W.faults sink.old ≤ W.faults sink.new }
     ensures failed { end ≢ SessionEnd.SinkFault → result ≡ SessionEnd.SinkFault →
-        Rose (W.faults sink.old) (W.faults sink.new) }
+        RoseByOne (W.faults sink.old) (W.faults sink.new) }
     ensures kept { result ≢ SessionEnd.SinkFault → W.faults sink.new ≡ W.faults sink.old }
 {
     if end == SessionEnd::SinkFault {
@@ -126,11 +127,12 @@ pub fn run_session<A: Answers, R: Source, W: Sink>(
     // The units are of the store's own books.
     ensures books { AreOf A.books result.faults }
 
-    // A fault of a stream comes only where that stream's count rose, and no such fault is passed over.
+    // A fault of a stream comes only where that stream's count rose, by one, and no such fault is passed over.
     ensures source_later { R.faults source.old ≤ R.faults source.new }
-    ensures source_failed { result.end ≡ SessionEnd.SourceFault → Rose (R.faults source.old) (R.faults source.new) }
+    ensures source_failed { result.end ≡ SessionEnd.SourceFault →
+        RoseByOne (R.faults source.old) (R.faults source.new) }
     ensures sink_later { W.faults sink.old ≤ W.faults sink.new }
-    ensures sink_failed { result.end ≡ SessionEnd.SinkFault → Rose (W.faults sink.old) (W.faults sink.new) }
+    ensures sink_failed { result.end ≡ SessionEnd.SinkFault → RoseByOne (W.faults sink.old) (W.faults sink.new) }
     ensures source_kept { result.end ≢ SessionEnd.SourceFault → result.end ≢ SessionEnd.SinkFault →
         R.faults source.new ≡ R.faults source.old }
     ensures sink_kept { result.end ≢ SessionEnd.SinkFault → W.faults sink.new ≡ W.faults sink.old }

@@ -136,12 +136,17 @@ fn a_failed_device_is_told_with_one_unit(rt: HostRuntime) -> Result<(), Fail> {
 #[test]
 fn a_failed_put_ends_a_session_after_a_front_of_the_replies(rt: HostRuntime) -> Result<(), Fail> {
     let alloc = rt.alloc();
-    for (room, failing, len, replies) in [(100, 1, 13, 2), (10, 9, 10, 1), (100, 3, 36, 3)] {
+    for (room, failing, len, replies, calls) in [
+        (100, 1, 13, 2, 2),
+        (10, 9, 10, 1, 1),
+        (100, 3, 36, 3, 4),
+    ] {
         let mut source = SteadySource::new(Vec::from_slice(alloc, SCRIPT)?);
         let mut sink = ByteSink::new(alloc, room, Vec::from_slice(alloc, &[failing])?)?;
         let out = serve(alloc, false, &mut source, &mut sink)?;
         assert_eq!(rt; Some(sink.as_bytes()), REPLIES.get(..len));
         assert_eq!(rt; (out.end, out.replies), (SessionEnd::SinkFault, replies));
+        assert_eq!(rt; (sink.calls(), sink.faults()), (calls, 1));
     }
     Ok(())
 }

@@ -22,7 +22,11 @@ pub struct OneRowPass {
 impl Answers for OneRow {
     type Pass = OneRowPass;
 
-    ghost map = { λ pass. record { rows = unwrap_or (option_map (λ row. row ∷ []) pass.row) []; number = pass.number; log = None } };
+    ghost map = { λ pass. record {
+      rows = unwrap_or (option_map (λ row. row ∷ []) pass.row) [];
+      number = pass.number;
+      log = None;
+    } };
 
     ghost counts = { λ pass device. if device == 0 then pass.book.count else 0 };
 
