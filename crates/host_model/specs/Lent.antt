@@ -3,7 +3,8 @@ use Rattle.std.specs.Prelude.{◌≡◌, ℕ, ◌+◌, ◌-◌, ◌^◌, ◌≤�
 use Rattle.std.specs.List.{AllByRecursion}
 use Rattle.fault_count.specs.Counts.{sum_of}
 
--- what contracts see of it while it is at home, the counts that it had when it was handed out, none while it is at home,
+-- what contracts see of it while it is at home, the counts that it had when it was handed out, none while it is at
+-- home,
 -- and how often it failed in all
 pub record Lent (T : Type 0) : Type 0 where
   pub home : Option T
@@ -39,7 +40,7 @@ risen faults before now = max faults (sum_of faults (rise_of before now))
 abbrev pub AllFit : List ℕ → Type 0
 AllFit counts = AllByRecursion (λ n. n < 2 ^ 64) counts
 
--- no count is more than this many faults in all, or past the last value
+-- each count is at most this many faults in all, and at most the last value
 abbrev pub AreWithin : ℕ → List ℕ → Type 0
 AreWithin faults counts = AllByRecursion (λ n. (n ≤ faults) × (n < 2 ^ 64)) counts
 

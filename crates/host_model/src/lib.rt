@@ -8,7 +8,7 @@
 //! Comes out    the same strip and streams, and their bytes where contracts can see them
 //! Stands on    fault_count, link_model, disk_model
 //! Begin at     src/host.rt, `Host`; src/lending.rt, `Lending`
-//! Leaves open  what a line of the notes comes to
+//! Leaves open  whether a line of the notes is kept, and where it goes
 #![tactic(auto)]
 
 mod host;

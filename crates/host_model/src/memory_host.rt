@@ -1,4 +1,4 @@
-ghost use Rattle.std.specs.Prelude.{◌≡◌, [], ◌∷◌, Some, None};
+ghost use Rattle.std.specs.Prelude.{◌≡◌, ◌⊎◌, [], ◌∷◌, ◌++◌, Some, None};
 ghost use Rattle.std.specs.Option.{option_copied, option_map, ForSome};
 ghost use Rattle.host_model.specs.Lent.{lent_of, total_of};
 ghost use Rattle.host_model.specs.HostState.{IsAllHome, strip_bytes, stream_bytes};
@@ -85,7 +85,8 @@ impl Host for MemoryHost {
 
     ghost state = { λ h. record {
       strip = lent_of (strip_bytes ⟦<MemoryStrip as Strip>⟧) h.strip.thing h.strip.counts h.strip.faults;
-      streams = lent_of (stream_bytes ⟦<ByteSource as Source>⟧ ⟦<ByteSink as Sink>⟧) h.streams.thing h.streams.counts h.streams.faults;
+      streams = lent_of (stream_bytes ⟦<ByteSource as Source>⟧ ⟦<ByteSink as Sink>⟧)
+          h.streams.thing h.streams.counts h.streams.faults;
     } };
 
     fn strip(&mut self) -> MemoryStrip {
@@ -106,7 +107,12 @@ impl Host for MemoryHost {
         self.streams.take_back((source, sink), counts);
     }
 
-    fn note(&mut self, line: &[u8]) {
+    fn note(&mut self, line: &[u8])
+        ensures kept { (self.new.strip ≡ self.old.strip) × (self.new.streams ≡ self.old.streams) }
+        ensures noted { (self.new.notes.items ≡ self.old.notes.items ++ line.now)
+            ⊎ (self.new.notes.items ≡ self.old.notes.items) }
+    {
+        // Out of memory, the line is lost. No answer waits for it.
         let _ = self.notes.extend_from_slice(line);
     }
 }
