@@ -1,7 +1,7 @@
--- What the status of a script says of the counts of faults. To know: `failed_rose`, `clean_kept`, `all_told`, `told_counted`, `stream_ended`, `source_unclean`.
+-- What the status of a script says of the counts of faults. To know: `failed_rose`, `clean_kept`, `all_told`, `told_counted`, `stream_ended`, `one_rose`, `source_unclean`.
 use Rattle.std.proofs.Common.{◌≡◌, ℕ, zero, suc, ◌+◌, ◌-◌, ◌^◌, ◌<◌, ◌≤◌, min, Bool, true, false, cond, List, [], ◌∷◌, ◌++◌, Option, Some, None, refl, sym, ap, ◌∙◌, arith, inl, inr, ◌⊎◌}
 use Rattle.std.specs.Prelude.{Result, Ok, Err, MatchOption}
-use Rattle.fault_count.specs.Counts.{Rose}
+use Rattle.fault_count.specs.Counts.{Rose, RoseByOne}
 use Rattle.fault_count.specs.Causes.{HasCause}
 use Rattle.disk_model.specs.Books.{BookName}
 use Rattle.disk_model.specs.Causes.{CauseOf}
@@ -178,6 +178,10 @@ pub told_counted : (first a b c d faults out told : ℕ) → first ≤ faults �
 told_counted first a b c d faults out told within is one two three o = omega (arith, o, is, within, one, two, three)
 
 -- ---- the streams
+
+-- a count that rose by one rose
+pub one_rose : (before now : ℕ) → RoseByOne before now → Rose before now
+one_rose before now h = omega (arith, h)
 
 -- status 5 is that of a session that a stream ended
 pub stream_ended : (one two : Bool) (failed : Option ℕ) (end : SessionEnd) → status_of (outcome_by one two failed end) ≡ 5 → (end ≡ SourceFault) ⊎ (end ≡ SinkFault)

@@ -195,12 +195,12 @@ by_end s P Spent decided counts holds failed (held, at, so, full, lacks) =
     (c.0, s.before ++ spell_replies so.answered, c.1, so.exchange.replies, (w, holds (record s.last { coming = prepend_known held s.last.coming }) so.asked so.answered refl so.exchange))
 by_end s P SourceFault decided counts holds failed (held, at, so, lacks, few) =
     let c = conversed_held s held s.last.put so.asked so.answered counts so.exchange in
-    let w : EndsCutShort (bytes_of s c.0 (s.before ++ spell_replies so.answered)) = record { requests = so.asked; replies = so.answered; said = so.answered; held = held; front = length (spell_replies so.answered); failed = failed (inl refl); conversed = c.2; quits = inl so.no_quit; is_said = inl (lacks, refl); put = all_said s.before so.answered; whole = but_last-most so.answered } in
+    let w : EndsCutShort (bytes_of s c.0 (s.before ++ spell_replies so.answered)) = record { requests = so.asked; replies = so.answered; said = so.answered; held = held; front = length (spell_replies so.answered); failed = failed (inl refl); conversed = c.2; quits = inl so.no_quit; is_said = inl (lacks, refl); put = all_said s.before so.answered; whole = but_last-most so.answered; taken = λ same few. absurd (omega (arith, few)) } in
     (c.0, s.before ++ spell_replies so.answered, c.1, so.exchange.replies, (w, holds (record s.last { coming = prepend_known held s.last.coming }) so.asked so.answered refl so.exchange))
 by_end s P SinkFault decided counts holds failed g =
     let put = append_known (Some s.before) (spell_replies g.answered) in
     let c = conversed_held s g.held put g.asked g.answered counts g.exchange in
-    let w : EndsCutShort (bytes_of s c.0 (s.before ++ take g.front (spell_replies g.said))) = record { requests = g.asked; replies = g.answered; said = g.said; held = g.held; front = g.front; failed = failed (inr refl); conversed = c.2; quits = g.quits; is_said = subst (λ (place : ℕ). Decided place g.held g.answered g.said) (omega arith) g.is_said; put = refl; whole = g.whole } in
+    let w : EndsCutShort (bytes_of s c.0 (s.before ++ take g.front (spell_replies g.said))) = record { requests = g.asked; replies = g.answered; said = g.said; held = g.held; front = g.front; failed = failed (inr refl); conversed = c.2; quits = g.quits; is_said = subst (λ (place : ℕ). Decided place g.held g.answered g.said) (omega arith) g.is_said; put = refl; whole = g.whole; taken = g.taken } in
     (c.0, s.before ++ take g.front (spell_replies g.said), c.1, g.put_is, (w, holds (record s.last { coming = prepend_known g.held s.last.coming; put = put }) g.asked g.answered refl g.exchange))
 by_end s P Memory decided counts holds failed (e, counted) =
     let c = split_known s.input [] s.last.coming e.came in

@@ -33,7 +33,8 @@ abbrev pub counts_of : {S : Type 0} → Ghosts S → JournalState S → ℕ → 
 counts_of strip journal device = if device == 0 then strip.count journal.strip else 0
 
 -- a call left the log as it was, on the same strip
-pub record KeepsLog {S : Type 0} (strip : Ghosts S) (old new : JournalState S) (old_kept new_kept : List ℕ) : Type 0 where
+pub record KeepsLog {S : Type 0} (strip : Ghosts S) (old new : JournalState S)
+    (old_kept new_kept : List ℕ) : Type 0 where
   pub log : log_of strip new new_kept ≡ log_of strip old old_kept
   pub tells : strip.tells new.strip ≡ strip.tells old.strip
   pub book : strip.book new.strip ≡ strip.book old.strip

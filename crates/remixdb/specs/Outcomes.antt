@@ -57,8 +57,10 @@ outcome_by false false (Some number) end = DeviceFailed number
 outcome_by false false None end = outcome_of_end end
 
 -- the same by what opening's clear, the session's replies and the closing settle told
-abbrev pub outcome_of_run : {T U : Type 0} → Result T DeviceError → Option ℕ → Result U DeviceError → SessionEnd → Outcome
-outcome_of_run cleared told settled end = outcome_by (short_of cleared) (short_of settled) (least_of (failed_of cleared) (least_of told (failed_of settled))) end
+abbrev pub outcome_of_run : {T U : Type 0} → Result T DeviceError → Option ℕ → Result U DeviceError → SessionEnd
+    → Outcome
+outcome_of_run cleared told settled end = outcome_by (short_of cleared) (short_of settled)
+    (least_of (failed_of cleared) (least_of told (failed_of settled))) end
 
 -- what came of an opening that was refused
 abbrev pub outcome_of_refusal : JournalError → Outcome

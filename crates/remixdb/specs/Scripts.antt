@@ -18,8 +18,8 @@ use Rattle.remixdb.specs.Outcomes.{IsCleanOfDevices, IsCleanOfStreams}
 use Rattle.remixdb.specs.Words.{IsScript}
 use Rattle.remixdb.specs.Logged.{joined}
 
--- What contracts see of a host that has all at home: what its source has left, what its sink took, what its strip holds,
--- each where contracts can see it; and how often a device and a stream failed.
+-- What contracts see of a host that has all at home: what its source has left, what its sink took, what its strip
+-- holds, each where contracts can see it; and how often a device and a stream failed.
 pub record HomeState : Type 0 where
   pub input : Option (List ℕ)
   pub output : Option (List ℕ)
@@ -36,10 +36,16 @@ streams_at_home (Some streams) = streams
 streams_at_home None = record { input = None; output = None }
 
 abbrev pub home_of : HostState → HomeState
-home_of host = record { input = (streams_at_home host.streams.home).input; output = (streams_at_home host.streams.home).output; strip = bytes_at_home host.strip.home; device_faults = host.strip.faults; stream_faults = host.streams.faults }
+home_of host = record {
+  input = (streams_at_home host.streams.home).input;
+  output = (streams_at_home host.streams.home).output;
+  strip = bytes_at_home host.strip.home;
+  device_faults = host.strip.faults;
+  stream_faults = host.streams.faults;
+}
 
--- what a script met whose bytes contracts can see: what was to come and what is left of it, what was put before and after, and the
--- host before and after
+-- what a script met whose bytes contracts can see: what was to come and what is left of it, what was put before and
+-- after, and the host before and after
 pub record ScriptBytes : Type 0 where
   pub input : List ℕ
   pub left : List ℕ
@@ -60,10 +66,12 @@ pub record Conversed (input : List ℕ) (requests : List Request) (replies : Lis
 abbrev pub TellsNoFault : List Reply → Type 0
 TellsNoFault replies = (device : ℕ) → told_by_all device replies ≡ 0
 
--- where contracts see the strip, it is a journal with no torn header, and its payloads, joined, are those from before and the
--- accepted updates as they were spelled
+-- where contracts see the strip, it is a journal with no torn header, and its payloads, joined, are those from before
+-- and the accepted updates as they were spelled
 abbrev pub Logs : Option (List ℕ) → Option (List ℕ) → List Request → List Reply → Type 0
-Logs before after requests replies = (old : List ℕ) → before ≡ Some old → (new : List ℕ) × (after ≡ Some new) × StandsFor (frames_of new) new × (joined (frames_of new) ≡ joined (frames_of old) ++ spell_requests (accepted requests replies))
+Logs before after requests replies = (old : List ℕ) → before ≡ Some old → (new : List ℕ) × (after ≡ Some new)
+    × StandsFor (frames_of new) new
+    × (joined (frames_of new) ≡ joined (frames_of old) ++ spell_requests (accepted requests replies))
 
 -- what is known of a session over devices that did not fail: no fault is told, and its updates are logged
 pub record WasSteady (old new : HomeState) (requests : List Request) (replies : List Reply) : Type 0 where
@@ -72,7 +80,8 @@ pub record WasSteady (old new : HomeState) (requests : List Request) (replies : 
 
 -- where each fault of a device that the host counted was told in a reply, the updates are logged
 abbrev pub LogsIfAllTold : HomeState → HomeState → List Request → List Reply → Type 0
-LogsIfAllTold old new requests replies = new.device_faults ≡ old.device_faults + told_by_all 0 replies → new.device_faults < 2 ^ 64 - 1 → Logs old.strip new.strip requests replies
+LogsIfAllTold old new requests replies = new.device_faults ≡ old.device_faults + told_by_all 0 replies
+    → new.device_faults < 2 ^ 64 - 1 → Logs old.strip new.strip requests replies
 
 -- each fault of a device that these replies tell was counted by the host
 abbrev pub AreCounted : HomeState → HomeState → List Request → List Reply → Type 0
@@ -86,7 +95,8 @@ pub record WasFaulty (old new : HomeState) (requests : List Request) (replies : 
 
 -- Bytes that are whole requests: up to a QUIT, after which anything may stand, or to their end.
 abbrev pub IsWellFormed : List ℕ → Type 0
-IsWellFormed input = (requests : List Request) × (rest : List ℕ) × AllByRecursion IsRequest requests × (input ≡ spell_requests requests ++ rest) × (EndsWithQuit requests ⊎ (rest ≡ []))
+IsWellFormed input = (requests : List Request) × (rest : List ℕ) × AllByRecursion IsRequest requests
+    × (input ≡ spell_requests requests ++ rest) × (EndsWithQuit requests ⊎ (rest ≡ []))
 
 -- a session that ended well: each request was answered, up to a QUIT or to the end of the input, and no byte was taken
 -- after that
@@ -101,11 +111,13 @@ pub record EndsWell (b : ScriptBytes) : Type 0 where
 abbrev pub EndedBy : List Request → List Reply → List ℕ → ScriptBytes → Type 0
 EndedBy requests replies held b =
     -- a message that is in no grammar: its refusal was put, with its place and the code of the first test that it fails
-    ((code : ℕ) × IsRefused held code × (b.after ≡ b.before ++ (spell_replies replies ++ spell_reply (BadMessage (length (spell_requests requests)) code))))
+    ((code : ℕ) × IsRefused held code × (b.after ≡ b.before ++ (spell_replies replies
+    ++ spell_reply (BadMessage (length (spell_requests requests)) code))))
     -- the front of a message that the input does not end
     ⊎ ((0 < length held) × (0 < wanted held) × (b.left ≡ []) × (b.after ≡ b.before ++ spell_replies replies))
     -- as many bytes as a session takes, and a message that still lacks some
-    ⊎ ((0 < wanted held) × (length (spell_requests requests) + length held ≡ SESSION_MAX) × (b.after ≡ b.before ++ spell_replies replies))
+    ⊎ ((0 < wanted held) × (length (spell_requests requests) + length held ≡ SESSION_MAX)
+    × (b.after ≡ b.before ++ spell_replies replies))
 
 -- a session that ended badly: each request before the end was answered
 pub record EndsBadly (b : ScriptBytes) : Type 0 where
@@ -117,7 +129,7 @@ pub record EndsBadly (b : ScriptBytes) : Type 0 where
   pub ended : EndedBy requests replies held b
 
 -- A session that a failed stream cut short: a front of what was to be put is there, and in it each reply but the last.
--- Nothing was taken after a QUIT.
+-- Nothing was taken after a QUIT, nor after a reply that was cut.
 pub record EndsCutShort (b : ScriptBytes) : Type 0 where
   pub requests : List Request
   pub replies : List Reply
@@ -130,6 +142,7 @@ pub record EndsCutShort (b : ScriptBytes) : Type 0 where
   pub is_said : Decided (length (spell_requests requests)) held replies said
   pub put : b.after ≡ b.before ++ take front (spell_replies said)
   pub whole : length (spell_replies (but_last said)) ≤ front
+  pub taken : length said ≡ length replies → front < length (spell_replies said) → held ≡ []
 
 -- how a session ended that began, with this of its requests and replies
 abbrev pub Served : ScriptBytes → (List Request → List Reply → Type 0) → Type 0
@@ -169,10 +182,12 @@ pub record ScriptEnds (status : ℕ) (b : ScriptBytes) : Type 0 where
 
 -- the same of a host whose bytes contracts may see
 abbrev pub ScriptTells : ℕ → HomeState → HomeState → Type 0
-ScriptTells status old new = (input : List ℕ) (before : List ℕ) → old.input ≡ Some input → old.output ≡ Some before → (left : List ℕ) × (after : List ℕ) × (new.input ≡ Some left) × (new.output ≡ Some after) × ScriptEnds status (record { input = input; left = left; before = before; after = after; old = old; new = new })
+ScriptTells status old new = (input : List ℕ) (before : List ℕ) → old.input ≡ Some input → old.output ≡ Some before
+    → (left : List ℕ) × (after : List ℕ) × (new.input ≡ Some left) × (new.output ≡ Some after)
+    × ScriptEnds status (record { input = input; left = left; before = before; after = after; old = old; new = new })
 
--- What the host's counts of faults say of a status: 4 comes only if a fault of a device was counted, and 5 only if one of
--- a stream was; a status of lower rank comes only if none was.
+-- What the host's counts of faults say of a status: 4 comes only if a fault of a device was counted, and 5 only if one
+-- of a stream was; a status of lower rank comes only if none was.
 pub record HasCauses (status : ℕ) (old new : HostState) : Type 0 where
   pub device_failed : status ≡ 4 → Rose old.strip.faults new.strip.faults
   pub device_kept : IsCleanOfDevices status → new.strip.faults ≡ old.strip.faults

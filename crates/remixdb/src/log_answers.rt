@@ -40,14 +40,20 @@ impl<S: Strip> Answers for LogAnswers<S> {
         value: Value,
     ) -> Result<u64, UpdateError>
         requires { pass.old.map.number < 2 ^ 62 }
-        ensures answer { PutAnswer (map_of S.Strip pass.old.map pass.old.journal pass.old.kept.items) key value result (map_of S.Strip pass.new.map pass.new.journal pass.new.kept.items) }
-        ensures cause { PutCause (λ device. record { device = device }) (counts_of S.Strip pass.old.journal) (counts_of S.Strip pass.new.journal) result }
+        ensures answer { PutAnswer (map_of S.Strip pass.old.map pass.old.journal pass.old.kept.items) key value result
+            (map_of S.Strip pass.new.map pass.new.journal pass.new.kept.items) }
+        ensures cause { PutCause (λ device. record { device = device })
+            (counts_of S.Strip pass.old.journal) (counts_of S.Strip pass.new.journal) result }
 
         // At the bound what was kept is settled in this call.
         ensures settled { OnOk result (KEPT_MAX ≤ length pass.old.kept.items → has_staged pass.new.journal ≡ false) }
 
+        // A put that succeeds leaves no frame in doubt.
+        ensures doubt { OnOk result (is_in_doubt pass.new.journal ≡ false) }
+
         // The strip is called only where it must be, and at most so often.
-        ensures quiet { is_in_doubt pass.old.journal ≡ false → length pass.old.kept.items < KEPT_MAX → pass.new.journal ≡ pass.old.journal }
+        ensures quiet { is_in_doubt pass.old.journal ≡ false → length pass.old.kept.items < KEPT_MAX →
+            pass.new.journal ≡ pass.old.journal }
         ensures calls { S.calls pass.new.journal.strip ≤ S.calls pass.old.journal.strip + 12 }
     {
         pass.make_room(alloc)?;

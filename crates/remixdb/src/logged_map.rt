@@ -28,6 +28,8 @@ const _: () = prove!(KEPT_MAX == 262_144);
 /// The most bytes that are kept: less than `KEPT_MAX`, and one message more.
 const KEPT_ROOM: usize = KEPT_MAX + MESSAGE_MAX;
 
+const _: () = prove!(KEPT_ROOM == 328_714);
+
 /// An ordered map whose updates are kept, as they are spelled, until a journal has them.
 ///
 /// Kept bytes become the payload of one frame. A frame that is in doubt is settled before anything else is kept.
@@ -118,7 +120,8 @@ impl<S: Strip> LoggedMap<S> {
     pub(crate) fn open(alloc: Global, strip: S) -> Result<LoggedMap<S>, (S, JournalError)>
         requires { (S.book strip).device ≡ 0 }
         ensures empty { IfOk result (λ map. map.map ≡ record { rows = []; number = 0 }) }
-        ensures log { IfOk result (λ map. OfBytes S.Strip strip (λ bytes. log_of S.Strip map.journal map.kept.items ≡ Some (joined (frames_of bytes)))) }
+        ensures log { IfOk result (λ map. OfBytes S.Strip strip (λ bytes.
+            log_of S.Strip map.journal map.kept.items ≡ Some (joined (frames_of bytes)))) }
         ensures idle { IfOk result (λ map. has_staged map.journal ≡ false) }
         ensures strip { IfOk result (λ map. IsSameStrip S.Strip strip map.journal.strip) }
         ensures count { IfOk result (λ map. S.count map.journal.strip ≡ S.count strip) }
@@ -128,8 +131,10 @@ impl<S: Strip> LoggedMap<S> {
         ensures whole { OnOk result (OfBytes S.Strip strip HasNoTorn) }
 
         // A strip that is refused comes back as it was.
-        ensures back { IfErr result (λ refused. IsSameStrip S.Strip strip refused.0 × KeepsBytes S.Strip strip refused.0) }
-        ensures cause { IfErr result (λ refused. OpeningCause (S.book strip) (S.count strip) (S.count refused.0) refused.1) }
+        ensures back { IfErr result (λ refused.
+            IsSameStrip S.Strip strip refused.0 × KeepsBytes S.Strip strip refused.0) }
+        ensures cause { IfErr result
+            (λ refused. OpeningCause (S.book strip) (S.count strip) (S.count refused.0) refused.1) }
     {
         match Journal::open(alloc, strip) {
             Ok((journal, _)) => Ok(LoggedMap {
@@ -164,8 +169,12 @@ impl<S: Strip> LoggedMap<S> {
     pub(crate) fn enter(&mut self, key: Key, value: Value) -> Result<u64, NoMemory>
         requires number { self.old.map.number < 2 ^ 62 }
         requires room { length self.old.kept.items < KEPT_MAX }
-        ensures ok { IfOk result (λ number. (number ≡ self.old.map.number) × (self.new.map ≡ record { rows = changed self.old.map.rows key (changes.Put value); number = self.old.map.number + 1 })) }
-        ensures kept { OnOk result (self.new.kept.items ≡ self.old.kept.items ++ request_bytes (put_request key value)) }
+        ensures ok { IfOk result (λ number. (number ≡ self.old.map.number) × (self.new.map ≡ record {
+          rows = changed self.old.map.rows key (changes.Put value);
+          number = self.old.map.number + 1;
+        })) }
+        ensures kept { OnOk result
+            (self.new.kept.items ≡ self.old.kept.items ++ request_bytes (put_request key value)) }
         ensures err { OnErr result ((self.new.map ≡ self.old.map) × (self.new.kept.items ≡ self.old.kept.items)) }
         ensures journal { self.new.journal ≡ self.old.journal }
     {
@@ -191,7 +200,8 @@ impl<S: Strip> LoggedMap<S> {
 
     /// Settles all that is kept, and gives the strip back. If it succeeds, its payloads are the log.
     pub(crate) fn close(mut self, alloc: Global) -> (S, Result<(), DeviceError>)
-        ensures log { OnOk result.1 (OfBytes S.Strip result.0 (λ bytes. log_of S.Strip self.journal self.kept.items ≡ Some (joined (frames_of bytes)))) }
+        ensures log { OnOk result.1 (OfBytes S.Strip result.0 (λ bytes.
+            log_of S.Strip self.journal self.kept.items ≡ Some (joined (frames_of bytes)))) }
         ensures stands { OnOk result.1 (OfBytes S.Strip result.0 (λ bytes. StandsFor (frames_of bytes) bytes)) }
         ensures strip { IsSameStrip S.Strip self.journal.strip result.0 }
         ensures calls { S.calls result.0 ≤ S.calls self.journal.strip + 12 }

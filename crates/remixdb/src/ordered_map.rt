@@ -52,7 +52,10 @@ impl OrderedMap {
     /// Gives the key this value, and answers the update's number.
     pub fn put(&mut self, key: Key, value: Value) -> Result<u64, NoMemory>
         requires { self.old.number < 2 ^ 62 }
-        ensures ok { IfOk result (λ number. (number ≡ self.old.number) × (self.new ≡ record { rows = changed self.old.rows key (changes.Put value); number = self.old.number + 1 })) }
+        ensures ok { IfOk result (λ number. (number ≡ self.old.number) × (self.new ≡ record {
+          rows = changed self.old.rows key (changes.Put value);
+          number = self.old.number + 1;
+        })) }
         ensures err { OnErr result (self.new ≡ self.old) }
     {
         let Ok(_) = self.values.insert(key, value) else {

@@ -32,7 +32,9 @@ pub(crate) fn program<H: Host>(
     ensures home { IsAllHome (H.state host.new) }
     ensures not_text { arguments.entry ≡ Err NotText → (result ≡ 2) × (H.state host.new ≡ H.state host.old) }
     ensures memory { arguments.entry ≡ Err Memory → (result ≡ 6) × (H.state host.new ≡ H.state host.old) }
-    ensures ran { IfOk arguments.entry (λ texts. ((result ≡ 6) × (H.state host.new ≡ H.state host.old)) ⊎ HasRun (words_after_name texts.now) result (H.state host.old) (H.state host.new)) }
+    ensures ran { IfOk arguments.entry (λ texts.
+        ((result ≡ 6) × (H.state host.new ≡ H.state host.old))
+        ⊎ HasRun (words_after_name texts.now) result (H.state host.old) (H.state host.new)) }
 {
     let arguments = match arguments {
         Ok(arguments) => arguments,

@@ -1,4 +1,4 @@
-ghost use Rattle.std.specs.Prelude.{◌≡◌, Some, IfOk};
+ghost use Rattle.std.specs.Prelude.{◌≡◌, [], Some, IfOk};
 ghost use Rattle.std.specs.Option.{ForSome};
 ghost use Rattle.host_model.specs.Lent.{lent_of};
 ghost use Rattle.host_model.specs.HostState.{strip_bytes, stream_bytes};
@@ -35,6 +35,7 @@ impl SystemHost {
         stderr: Stderr,
     ) -> Result<SystemHost, NoMemory>
         ensures home { IfOk result (λ host. IsAllHome (⟦<SystemHost as Host>⟧.state host)) }
+        ensures empty { IfOk result (λ host. (⟦<SystemHost as Host>⟧.state host).strip.home ≡ Some (Some [])) }
         ensures none { IfOk result (λ host. (host.strip.faults ≡ 0) × (host.streams.faults ≡ 0)) }
     {
         let pair = stream_pair(alloc, stdin, stdout)?;
@@ -55,7 +56,8 @@ impl Host for SystemHost {
 
     ghost state = { λ h. record {
       strip = lent_of (strip_bytes ⟦<SteadyStrip as Strip>⟧) h.strip.thing h.strip.counts h.strip.faults;
-      streams = lent_of (stream_bytes ⟦<StdSource as Source>⟧ ⟦<StdSink as Sink>⟧) h.streams.thing h.streams.counts h.streams.faults;
+      streams = lent_of (stream_bytes ⟦<StdSource as Source>⟧ ⟦<StdSink as Sink>⟧)
+          h.streams.thing h.streams.counts h.streams.faults;
     } };
 
     fn strip(&mut self) -> SteadyStrip {

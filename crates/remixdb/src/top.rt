@@ -32,7 +32,8 @@ fn run<H: Host>(alloc: Global, words: &[Word], host: &mut H) -> Outcome
     ensures words { (status_of result ≡ 2) ↔ (IsScript words.now → ⊥) }
     ensures idle { (IsScript words.now → ⊥) → H.state host.new ≡ H.state host.old }
     ensures causes { HasCauses (status_of result) (H.state host.old) (H.state host.new) }
-    ensures bytes { IsScript words.now → ScriptTells (status_of result) (home_of (H.state host.old)) (home_of (H.state host.new)) }
+    ensures bytes { IsScript words.now →
+        ScriptTells (status_of result) (home_of (H.state host.old)) (home_of (H.state host.new)) }
 {
     match command_of(words) {
         Some(Command::Script) => script(alloc, host),
@@ -58,7 +59,7 @@ pub fn remixdb<H: Host>(alloc: Global, words: &[Word], host: &mut H) -> u8
     // The streams and the strip are back.
     ensures home { IsAllHome (H.state host.new) }
 
-    // Status 2 is exactly that of words in another form, and then nothing is taken, put or written, and no fault counted.
+    // Status 2 is exactly that of words in another form. Nothing is then taken, put or written, and no fault counted.
     ensures words { (result ≡ 2) ↔ (IsScript words.now → ⊥) }
     ensures idle { (IsScript words.now → ⊥) → H.state host.new ≡ H.state host.old }
     ensures least { result ≤ 6 }
@@ -69,10 +70,11 @@ pub fn remixdb<H: Host>(alloc: Global, words: &[Word], host: &mut H) -> u8
 
     // Status 5 comes only if a stream's fault was counted, and a status of lower rank never if one was.
     ensures stream_failed { result ≡ 5 → Rose (H.state host.old).streams.faults (H.state host.new).streams.faults }
-    ensures stream_kept { IsCleanOfStreams result → (H.state host.new).streams.faults ≡ (H.state host.old).streams.faults }
+    ensures stream_kept { IsCleanOfStreams result →
+        (H.state host.new).streams.faults ≡ (H.state host.old).streams.faults }
 
-    // If contracts can see the host's bytes: which requests came and were taken, what was put, what is on the strip, and
-    // why it ended so.
+    // If contracts can see the host's bytes: which requests came and were taken, what was put, what is on the strip,
+    // and why it ended so.
     ensures bytes { IsScript words.now → ScriptTells result (home_of (H.state host.old)) (home_of (H.state host.new)) }
 {
     let outcome = run(alloc, words, host);

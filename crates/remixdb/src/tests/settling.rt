@@ -60,8 +60,8 @@ fn a_put_settles_where_enough_is_kept(rt: HostRuntime) -> Result<(), Fail> {
     leaves(&rt, 65_491, &[0xA5, 0, 4, 0, 0], &[0xA5, 0, 0, 0, 13])
 }
 
-/// Four long PUTs, these requests, and QUIT, over a strip that fails at these calls: the requests get these replies, and
-/// the last PUT stands in a frame of its own.
+/// Four long PUTs, these requests, and QUIT, over a strip that fails at these calls: the requests get these replies,
+/// and the last PUT stands in a frame of its own.
 fn is_in_doubt(
     rt: &(impl Abort + AllocGlobal),
     device_fails: &[u64],

@@ -8,7 +8,7 @@ use Rattle.session_core.specs.declared.session_end.SessionEnd.{SessionEnd}
 use Rattle.session_core.specs.declared.session_end.SessionEnd.TheVariants.{SourceFault, SinkFault}
 use Rattle.remixdb.specs.Outcomes.{status_of, short_of, failed_of, least_of, outcome_by, IsCleanOfDevices, IsCleanOfStreams}
 use Rattle.remixdb.proofs.Scripting.{script_tells, refused_tells, fresh_of}
-use Rattle.remixdb.proofs.Failing.{session_told, session_later, session_tells, none_told, failed_rose, clean_kept, all_told, told_counted, stream_ended, source_unclean, sink_unclean, refused_rose, refused_kept, refused_later, refused_not_five}
+use Rattle.remixdb.proofs.Failing.{session_told, session_later, session_tells, none_told, failed_rose, clean_kept, all_told, told_counted, stream_ended, one_rose, source_unclean, sink_unclean, refused_rose, refused_kept, refused_later, refused_not_five}
 use Rattle.remixdb.proofs.script.script.Goals as goal
 
 pub give_streams-requires : goal.give_streams-requires
@@ -48,7 +48,7 @@ returns-clause-causes g c =
           (clean_kept c.make_ready-cleared.result c.least_device.result c.close-strip.result.1 c.run_session-end.result.end _ _ _ _ _ _ c.make_ready-cleared.ensures.cause told c.close-strip.ensures.cause (subst (λ (n : ℕ). IsCleanOfDevices n) (ap status_of c.of_run.ensures) clean));
       stream_failed = λ five.
           let ended = stream_ended one two failed c.run_session-end.result.end (sym (ap status_of c.of_run.ensures) ∙ five) in
-          streams_risen-rose _ _ _ _ _ _ (omega (arith, c.streams-source.ensures.within.0.0, same)) (omega (arith, c.streams-source.ensures.within.1.0.0, same)) run.source_later run.sink_later back.stream_faults (elim ended [ inl is ↦ inl (run.source_failed is) | inr is ↦ inr (run.sink_failed is) ]);
+          streams_risen-rose _ _ _ _ _ _ (omega (arith, c.streams-source.ensures.within.0.0, same)) (omega (arith, c.streams-source.ensures.within.1.0.0, same)) run.source_later run.sink_later back.stream_faults (elim ended [ inl is ↦ inl (one_rose _ _ (run.source_failed is)) | inr is ↦ inr (one_rose _ _ (run.sink_failed is)) ]);
       stream_kept = λ clean.
           let by_end : IsCleanOfStreams (status_of (outcome_by one two failed c.run_session-end.result.end)) = subst (λ (n : ℕ). IsCleanOfStreams n) (ap status_of c.of_run.ensures) clean in
           let no_source : c.run_session-end.result.end ≡ SourceFault → ⊥ = λ e. source_unclean one two failed (subst (λ (end : SessionEnd). IsCleanOfStreams (status_of (outcome_by one two failed end))) e by_end) in
@@ -104,7 +104,7 @@ returns-clause-bytes g c = λ i b is_i is_b.
     (none_told c.least_device.result _ _ c.least_device.ensures)
     (λ number counted. told_counted _ _ _ _ _ _ _ number c.strip-strip.ensures.within.0.0 c.in-Ok.ensures.count c.make_ready-cleared.ensures.cause.later counted c.close-strip.ensures.cause.later back.device_faults)
     (λ number counted all below short. all_told c.close-strip.result.1 _ _ _ _ _ _ _ _ number c.strip-strip.ensures.within.0.0 c.in-Ok.ensures.count c.make_ready-cleared.ensures.cause.later counted c.close-strip.ensures.cause back.device_faults all below short)
-    (λ ended. streams_risen-rose _ _ _ _ _ _ (omega (arith, c.streams-source.ensures.within.0.0, same)) (omega (arith, c.streams-source.ensures.within.1.0.0, same)) run.source_later run.sink_later back.stream_faults (elim ended [ inl is ↦ inl (run.source_failed is) | inr is ↦ inr (run.sink_failed is) ]))
+    (λ ended. streams_risen-rose _ _ _ _ _ _ (omega (arith, c.streams-source.ensures.within.0.0, same)) (omega (arith, c.streams-source.ensures.within.1.0.0, same)) run.source_later run.sink_later back.stream_faults (elim ended [ inl is ↦ inl (one_rose _ _ (run.source_failed is)) | inr is ↦ inr (one_rose _ _ (run.sink_failed is)) ]))
     (ap status_of c.of_run.ensures)
     run.out
     i b (sym (ap (λ (o : Option StreamBytes). (streams_at_home o).input) home) ∙ is_i) (sym (ap (λ (o : Option StreamBytes). (streams_at_home o).output) home) ∙ is_b)
