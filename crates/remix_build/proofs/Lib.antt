@@ -1,3 +1,4 @@
+pub mod HeadLemmas
 pub mod MergeLemmas
 pub mod GroupLemmas
 pub mod PackLemmas

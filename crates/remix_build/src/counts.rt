@@ -26,7 +26,8 @@ pub(crate) fn no_counts(alloc: Global, runs: usize) -> Result<Counts, NoMemory>
 pub(crate) fn counted(alloc: Global, counts: &[u32], selectors: &[u8]) -> Result<Counts, NoMemory>
     requires runs { length counts.now ≤ 8 }
     requires few { length selectors.now ≤ 32 }
-    requires room { (run : ℕ) → run < length counts.now → slice_index counts.now run + rank_in run selectors.now < 2 ^ 32 }
+    requires room { (run : ℕ) → run < length counts.now →
+        slice_index counts.now run + rank_in run selectors.now < 2 ^ 32 }
     ensures { IfOk result (λ later. CountedOn counts.now selectors.now later.items) }
 {
     let mut later = SmallVec::new(alloc);

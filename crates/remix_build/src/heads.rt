@@ -1,73 +1,81 @@
-//! The next version of a merge: of the heads of all runs the least key, and of equal keys the newest run.
-ghost use Rattle.std.specs.Prelude.{◌≡◌, ◌+◌, ◌<◌, ◌≤◌, length, map, slice_index};
-ghost use Rattle.remix_build.specs.Merging.{Least, HasHead, heads_in_order, head_at};
+//! The heads of all runs, lent, and the one that comes first: the least key, and of equal keys the newest run.
+ghost use Rattle.std.specs.Prelude.{◌≡◌, ◌+◌, ◌<◌, ◌≤◌, length, map, slice_get, IfOk};
+ghost use Rattle.remix_build.specs.Heads.{LeastHead, AreFirst, lent_key, head_of_run, key_of};
 
-use rdb_base::{Steps, compare_bytes};
+use rdb_base::{NoMemory, Steps, compare_bytes};
 use remix_seek::Runs;
+use std::alloc::Global;
 use std::sync::ledger::Ledger;
 
-/// The run whose head comes first. None where no run has a head.
-pub(crate) fn least<T: Runs, L: Ledger>(
-    runs: &[T],
-    places: &[u32],
+/// The first key of each run, where there is one.
+pub(crate) fn first_heads<'a, T: Runs, L: Ledger>(
+    alloc: Global,
+    runs: &'a [T],
     steps: &mut Steps<L>,
-) -> Option<u8>
-    requires few { length runs.now ≤ 8 }
-    requires places { length places.now ≡ length runs.now }
-    ensures { Least (map T.run runs.now) places.now (length runs.now) result }
+) -> Result<Vec<Option<&'a [u8]>>, NoMemory>
+    ensures { IfOk result (λ heads. AreFirst (map T.run runs.now) heads.items) }
 {
-    let mut best: Option<u8> = None;
+    let mut heads = Vec::with_capacity(alloc, runs.len())?;
+    'runs: for run in runs {
+        heads.push(head_at(run, 0, steps))?;
+    }
+    Ok(heads)
+}
+
+/// The key at a place of a run, where there is one.
+pub(crate) fn head_at<'a, T: Runs, L: Ledger>(
+    run: &'a T,
+    place: u32,
+    steps: &mut Steps<L>,
+) -> Option<&'a [u8]>
+    ensures { lent_key result ≡ key_of (slice_get (T.run run.now) place) }
+{
+    if place < run.len() {
+        Some(run.lent_key(place, steps))
+    } else {
+        None
+    }
+}
+
+/// The run whose head comes first, and that head. None where no run has a head.
+pub(crate) fn least<'a>(heads: &[Option<&'a [u8]>]) -> Option<(u8, &'a [u8])>
+    requires few { length heads.now ≤ 8 }
+    ensures { LeastHead heads.now (length heads.now) result }
+{
+    let mut best = None;
     let mut run: u8 = 0;
-    'heads: while (run as usize) < runs.len() {
-        best = better(runs, places, best, run, steps);
+    'heads: while (run as usize) < heads.len() {
+        best = better(heads, best, run, heads[run as usize]);
         run += 1;
     }
     best
 }
 
-/// The better of the best so far and one run more.
-fn better<T: Runs, L: Ledger>(
-    runs: &[T],
-    places: &[u32],
-    best: Option<u8>,
+/// The better of the best so far and the head of one run more.
+fn better<'a>(
+    heads: &[Option<&'a [u8]>],
+    best: Option<(u8, &'a [u8])>,
     run: u8,
-    steps: &mut Steps<L>,
-) -> Option<u8>
-    requires few { length runs.now ≤ 8 }
-    requires places { length places.now ≡ length runs.now }
-    requires run { run < length runs.now }
-    requires best { Least (map T.run runs.now) places.now run best }
-    ensures { Least (map T.run runs.now) places.now (run + 1) result }
+    head: Option<&'a [u8]>,
+) -> Option<(u8, &'a [u8])>
+    requires few { length heads.now ≤ 8 }
+    requires run { run < length heads.now }
+    requires best { LeastHead heads.now run best }
+    requires head { lent_key head ≡ head_of_run heads.now run }
+    ensures { LeastHead heads.now (run + 1) result }
 {
-    let place = places[run as usize];
-    if place >= runs[run as usize].len() {
-        return best;
+    match head {
+        None => best,
+        Some(key) => match best {
+            None => Some((run, key)),
+            Some((other, least)) => {
+                let before = compare_bytes(key, least).is_lt();
+                if before {
+                    Some((run, key))
+                } else {
+                    Some((other, least))
+                }
+            }
+        },
     }
-    match best {
-        None => Some(run),
-        Some(other) => {
-            let before = is_head_before(runs, places, run, other, steps);
-            if before { Some(run) } else { Some(other) }
-        }
-    }
-}
-
-/// Whether the head's key of one run is below that of another.
-fn is_head_before<T: Runs, L: Ledger>(
-    runs: &[T],
-    places: &[u32],
-    run: u8,
-    other: u8,
-    steps: &mut Steps<L>,
-) -> bool
-    requires places { length places.now ≡ length runs.now }
-    requires run { run < length runs.now }
-    requires other { other < length runs.now }
-    requires head { HasHead (map T.run runs.now) places.now run }
-    requires head_of_other { HasHead (map T.run runs.now) places.now other }
-    ensures { result ≡ heads_in_order (head_at (map T.run runs.now) places.now run) (head_at (map T.run runs.now) places.now other) }
-{
-    let mine = runs[run as usize].lent_key(places[run as usize], steps);
-    let theirs = runs[other as usize].lent_key(places[other as usize], steps);
-    compare_bytes(mine, theirs).is_lt()
 }

@@ -51,10 +51,12 @@ pub(crate) fn add_segment<T: Runs, L: Ledger>(
 ) -> Result<(), NoMemory>
     requires few { length runs.now ≤ 8 }
     requires runs { AreRuns (map T.run runs.now) }
-    requires packed { Packed (map T.run runs.now) order.now packing.old.index.view.segments packing.old.index.anchors packing.old.counts.items packing.old.at }
+    requires packed { Packed (map T.run runs.now) order.now packing.old.index.view.segments
+        packing.old.index.anchors packing.old.counts.items packing.old.at }
     requires more { packing.old.at < length order.now }
     requires view { packing.old.index.view.runs ≡ length runs.now }
-    ensures packed { OnOk result (Packed (map T.run runs.now) order.now packing.new.index.view.segments packing.new.index.anchors packing.new.counts.items packing.new.at) }
+    ensures packed { OnOk result (Packed (map T.run runs.now) order.now packing.new.index.view.segments
+        packing.new.index.anchors packing.new.counts.items packing.new.at) }
     ensures view { OnOk result (packing.new.index.view.runs ≡ length runs.now) }
     ensures further { OnOk result (packing.old.at < packing.new.at) }
 {
@@ -94,7 +96,8 @@ fn anchor_of<T: Runs, L: Ledger>(
     requires counts { length counts.now ≡ length runs.now }
     requires run { run_in selector < length runs.now }
     requires place { slice_index counts.now (run_in selector) < length (run_at (map T.run runs.now) (run_in selector)) }
-    ensures { IfOk result (λ key. KeyAt (run_at (map T.run runs.now) (run_in selector)) (slice_index counts.now (run_in selector)) key) }
+    ensures { IfOk result (λ key. KeyAt (run_at (map T.run runs.now) (run_in selector))
+        (slice_index counts.now (run_in selector)) key) }
 {
     let run = run_in(selector) as usize;
     runs[run].key_at(alloc, counts[run], steps)

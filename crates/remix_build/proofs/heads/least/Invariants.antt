@@ -1,15 +1,15 @@
-use Rattle.std.proofs.Common.{◌-◌, ◌≤◌, ℕ, length, map}
-use Rattle.std.specs.Prelude.{List, Option}
-use Rattle.rdb_base.specs.declared.pair.Pair.{Pair}
-use Rattle.remix_build.specs.Merging.{Least}
+use Rattle.std.proofs.Common.{◌-◌, ◌≤◌, ℕ, List, length}
+use Rattle.std.specs.Prelude.{Option}
+use denote.Ref.{Bor}
+use Rattle.remix_build.specs.Heads.{LeastHead}
 use Rattle.remix_build.proofs.heads.least.Given as goal
 
-pub record Found (runs : List (List Pair)) (places : List ℕ) (run : ℕ) (best : Option ℕ) (most : ℕ) : Type 0 where
-  pub least : Least runs places run best
-  pub inside : run ≤ most
+pub record Found (heads : List (Option (Bor (List ℕ)))) (run : ℕ) (best : Option (ℕ × Bor (List ℕ))) : Type 0 where
+  pub least : LeastHead heads run best
+  pub inside : run ≤ length heads
 
 abbrev pub invariant-heads : goal.invariant-heads
-invariant-heads g l = Found (map g.T.Runs.run l.runs) l.places l.run l.best (length l.runs)
+invariant-heads l = Found l.heads l.run l.best
 
 abbrev pub decreases-heads : goal.decreases-heads
-decreases-heads g l = length l.runs - l.run
+decreases-heads l = length l.heads - l.run

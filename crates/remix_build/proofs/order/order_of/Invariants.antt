@@ -1,12 +1,15 @@
-use Rattle.std.proofs.Common.{◌≡◌, ℕ, length, map}
-use Rattle.std.specs.Prelude.{List, Option}
+use Rattle.std.proofs.Common.{◌≡◌, ℕ, List, length, map}
+use Rattle.std.specs.Prelude.{Option}
+use denote.Ref.{Bor}
 use Rattle.rdb_base.specs.declared.pair.Pair.{Pair}
+use Rattle.remix_build.specs.Heads.{AreHeads, lent_key}
 use Rattle.remix_build.specs.Merging.{Merging}
 use Rattle.remix_build.proofs.order.order_of.Given as goal
 
-pub record Going (runs : List (List Pair)) (places order : List ℕ) (last : Option (ℕ × ℕ)) (count : ℕ) : Type 0 where
-  pub merging : Merging runs places order last
-  pub long : length places ≡ count
+pub record Going (runs : List (List Pair)) (places order : List ℕ) (heads : List (Option (Bor (List ℕ)))) (last : Option (Bor (List ℕ))) : Type 0 where
+  pub merging : Merging runs places order (lent_key last)
+  pub heads_are : AreHeads runs places heads
+  pub long : length places ≡ length runs
 
 abbrev pub invariant-versions : goal.invariant-versions
-invariant-versions g l = Going (map g.T.Runs.run l.runs) l.places.items l.order.items l.last (length l.runs)
+invariant-versions g l = Going (map g.T.Runs.run l.runs) l.places.items l.order.items l.heads.items l.last
