@@ -1,0 +1,5 @@
+pub mod SumLemmas
+pub mod SetLemmas
+pub mod LookupLemmas
+pub mod OneSetLemmas
+pub mod SeveralLemmas

@@ -1,0 +1,3 @@
+pub mod Partitions
+pub mod Bounds
+pub mod Kept
