@@ -9,7 +9,7 @@ use Rattle.frame_journal.specs.Devices.{SameStrip, OfBytes, OfImages, OfCrashes,
 use Rattle.frame_journal.specs.declared.phase.Phase.{Phase}
 use Rattle.frame_journal.specs.declared.phase.Phase.TheVariants.{Fresh, Shut, Ready, Staged, Body, Gate}
 use Rattle.frame_journal.specs.JournalState.{JournalState, ready_in, staged_in, is_ready, has_staged, closes_gate, staged_frame}
-use Rattle.frame_journal.specs.Journals.{standing, with_staged, HasStanding, survivors, HasSurvivors, StandsForNoneOr, StandsWithOrWithout}
+use Rattle.frame_journal.specs.Journals.{standing, standing_to, with_staged, HasStanding, survivors, HasSurvivors, StandsForNoneOr, StandsWithOr, StandsWithOrWithout, StandsBy, Leaves}
 use Rattle.rdb_base.specs.declared.entry.Entry.{Entry}
 use Rattle.entry_code.specs.Payloads.{header_payload, entries_of, entry_fields}
 use Rattle.entry_code.specs.Batches.{BatchState}
@@ -20,7 +20,7 @@ use Rattle.rdb_base.specs.declared.limits.TheConstants.{NUMBER_MAX}
 use Rattle.entry_code.specs.declared.format.TheConstants.{ENTRY_MAX}
 use Rattle.wal_log.specs.declared.limits.TheConstants.{PENDING_MAX}
 use Rattle.wal_log.specs.declared.log_error.LogError.{LogError}
-use Rattle.wal_log.specs.Logs.{alone, HasEntries, HasFrontOf}
+use Rattle.wal_log.specs.Logs.{alone, HasEntries, HasFrontOf, HasHeader}
 use Rattle.wal_log.specs.SegmentState.{SegmentState}
 use Rattle.wal_log.specs.Calls.{HasFront, StripCalls}
 use Rattle.wal_log.specs.Kept.{HasEither, IsKept, IsCounted}
@@ -58,6 +58,28 @@ nil_of (frame ∷ frames) e = absurd (not_both (nat_lt 0 (length (frame ∷ fram
 some_of : (frames : List FrameValue) → nat_lt 0 (length frames) ≡ true → 0 < length frames
 some_of [] e = absurd cc
 some_of (frame ∷ frames) e = omega arith
+
+some_whole : (frames : List FrameValue) (bytes : List ℕ) → 0 < length frames → StandsFor frames bytes → HasHeader bytes
+some_whole frames bytes some stands = subst (λ (l : List FrameValue). 0 < length l) (sym stands.whole) some
+
+more_whole : (frames : List FrameValue) (frame : FrameValue) (bytes : List ℕ) → 0 < length frames → StandsWithOr frames frame bytes → HasHeader bytes
+more_whole frames frame bytes some (inl stands) = some_whole frames bytes some stands
+more_whole frames frame bytes some (inr stands) = some_whole (frames ++ frame ∷ []) bytes (omega (arith, some, length-append frames (frame ∷ []))) stands
+
+-- where frames stand in a ready journal, they stand in what its strip may be after a crash
+header_by : (phase : Phase) (bytes : List ℕ) (end : ℕ) (payload image : List ℕ) → ready_in phase ≡ true → 0 < length (standing_to end bytes) → StandsBy phase bytes end payload image → HasHeader image
+header_by Fresh bytes end payload image ready some stands = absurd cc
+header_by Shut bytes end payload image ready some stands = absurd cc
+header_by Ready bytes end payload image ready some stands = some_whole (standing_to end bytes) image some stands
+header_by Staged bytes end payload image ready some stands = some_whole (standing_to end bytes) image some stands
+header_by Body bytes end payload image ready some stands = some_whole (standing_to end bytes) image some stands
+header_by Gate bytes end payload image ready some stands = more_whole (standing_to end bytes) (record { at = end; payload = payload }) image some stands
+
+pub header_stands : {S : Type 0} (strip : Ghosts S) (journal : JournalState S) → Leaves strip journal → is_ready journal ≡ true → IfTold (strip.tells journal.strip) (0 < length (standing strip journal)) → OfBytes strip journal.strip HasHeader × OfImages strip journal.strip HasHeader
+header_stands strip journal left ready some = (
+  λ told. header_by journal.phase (strip.content journal.strip) journal.end journal.payload (strip.content journal.strip) ready (some told) (left.content told),
+  λ told c may. header_by journal.phase (strip.content journal.strip) journal.end journal.payload c ready (some told) (left.images told c may),
+)
 
 module _ {S : Type 0} (strip : Ghosts S) (number first : ℕ) where
   -- the frames that stand, with the staged one or without, have either list

@@ -2,6 +2,8 @@
 use Rattle.std.specs.Prelude.{◌≡◌, ℕ, ◌%◌, List, Result, Ok, Err}
 use Rattle.disk_model.specs.Books.{BookName}
 use Rattle.fault_count.specs.Counts.{RoseByOne}
+use Rattle.disk_model.specs.declared.strip.Strip.{Ghosts}
+use Rattle.frame_journal.specs.Devices.{IsSynced}
 use Rattle.frame_journal.specs.Frames.{frames_of, IsTornAt, HasNoTorn}
 use Rattle.frame_journal.specs.declared.journal_error.JournalError.{JournalError}
 use Rattle.wal_log.specs.declared.log_error.LogError.{LogError}
@@ -9,7 +11,7 @@ use Rattle.wal_log.specs.declared.log_error.LogError.TheVariants.{Fault, TornHea
 use Rattle.frame_journal.specs.declared.journal_error.JournalError.TheVariants as journals
 use Rattle.wal_log.specs.Logs.{strip_of, alone}
 
--- an error that reading the frames tells is the one that the definition has there; want of memory is free
+-- if reading the frames fails, the error is the one that the definition has there, or out of memory
 abbrev pub FailsLog : {Y : Type 0} → LogError → Result Y LogError → Type 0
 FailsLog Memory read = Unit {0}
 FailsLog (Fault unit) read = ⊥
@@ -29,7 +31,15 @@ IsRefused number first (LogGap want found) bytes = HasNoTorn bytes × (alone num
 IsRefused number first (Fault unit) bytes = Unit {0}
 IsRefused number first Memory bytes = Unit {0}
 
--- a journal's refusal, told of a log
+-- an error that speaks of a strip's bytes speaks of bytes that are synced
+abbrev pub IsOfSynced : {S : Type 0} → Ghosts S → S → LogError → Type 0
+IsOfSynced strip s (TornHeader number at) = IsSynced strip s
+IsOfSynced strip s (BadEntry number frame at) = IsSynced strip s
+IsOfSynced strip s (LogGap want found) = IsSynced strip s
+IsOfSynced strip s (Fault unit) = Unit {0}
+IsOfSynced strip s Memory = Unit {0}
+
+-- a journal's refusal, as that of a log
 abbrev pub LogErrorOf : ℕ → JournalError → LogError → Type 0
 LogErrorOf number (journals.Fault unit) error = error ≡ Fault unit
 LogErrorOf number (journals.TornHeader at) error = error ≡ TornHeader (strip_of number) at

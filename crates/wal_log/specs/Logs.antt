@@ -1,5 +1,5 @@
 -- What the frames of one strip say of a log.
-use Rattle.std.specs.Prelude.{◌≡◌, ℕ, ◌+◌, ◌%◌, ◌≤◌, List, [], ◌∷◌, ◌++◌, length, take, Result, Ok, Err, ◌==◌, if◌then◌else◌}
+use Rattle.std.specs.Prelude.{◌≡◌, ℕ, ◌+◌, ◌%◌, ◌<◌, ◌≤◌, List, [], ◌∷◌, ◌++◌, length, take, Result, Ok, Err, ◌==◌, if◌then◌else◌}
 use Rattle.frame_journal.specs.FrameValue.{FrameValue}
 use Rattle.frame_journal.specs.Frames.{frames_of, HasNoTorn}
 use Rattle.rdb_base.specs.declared.entry.Entry.{Entry}
@@ -58,6 +58,11 @@ alone number first (frame ∷ frames) = do
 pub record HasEntries (number first : ℕ) (entries : List Entry) (bytes : List ℕ) : Type 0 where
   pub whole : HasNoTorn bytes
   pub read : alone number first (frames_of bytes) ≡ Ok entries
+
+-- A frame stands on a strip with these bytes. Where a log is read there (`HasEntries`), it is the header, of this segment
+-- and with this first number.
+abbrev pub HasHeader : List ℕ → Type 0
+HasHeader bytes = 0 < length (frames_of bytes)
 
 -- it has the first so many of these entries, no fewer than these
 pub record HasFrontOf (number first : ℕ) (entries : List Entry) (least : ℕ) (bytes : List ℕ) : Type 0 where

@@ -2,6 +2,7 @@
 ghost use Rattle.std.specs.Prelude.{IsOk, ◌≡◌, ◌+◌, ◌≤◌, [], true, false, length, OnOk, OnErr, IfOk};
 ghost use Rattle.frame_journal.specs.Devices.{CauseIn, OfBytes, OfImages};
 ghost use Rattle.frame_journal.specs.JournalState.{has_staged};
+ghost use Rattle.wal_log.specs.Logs.{HasHeader};
 ghost use Rattle.wal_log.specs.Calls.{SameEntries, HasFront, HasAll, StripCalls};
 
 use crate::Segment;
@@ -148,7 +149,8 @@ impl<S: Strip> Segment<S> {
         let _first = self.first;
     }
 
-    /// Each crash image has the first so many entries, no fewer than are synced. It does nothing.
+    /// Each crash image has the first so many entries, no fewer than are synced, and the header of a segment that was
+    /// started. It does nothing.
     pub fn tell_images(&self)
         ensures content { OfBytes S.Strip self.now.journal.strip (HasFront self.now) }
         ensures images { OfImages S.Strip self.now.journal.strip (HasFront self.now) }
@@ -158,7 +160,11 @@ impl<S: Strip> Segment<S> {
         ensures all { self.now.synced ≡ self.now.entries →
             OfBytes S.Strip self.now.journal.strip (HasAll self.now)
             × OfImages S.Strip self.now.journal.strip (HasAll self.now) }
+        // Where the segment was started, they have its header.
+        ensures header { self.now.headed ≡ true →
+            OfBytes S.Strip self.now.journal.strip HasHeader
+            × OfImages S.Strip self.now.journal.strip HasHeader }
     {
-        let _first = self.first;
+        self.journal.leaves();
     }
 }

@@ -1,13 +1,13 @@
 ghost use Rattle.std.specs.Prelude.{nat_lt, ◌≡◌, ◌+◌, ◌<◌, ◌≤◌, ◌++◌, ◌∷◌, [], None, true, false, length, OnOk, IfOk, IfErr};
 ghost use Rattle.rdb_base.specs.declared.limits.TheConstants.{NUMBER_MAX};
 ghost use Rattle.disk_model.specs.Crashes.{Narrows};
-ghost use Rattle.frame_journal.specs.Devices.{SameStrip, KeepsBytes, OfBytes, OfImages, Spans};
+ghost use Rattle.frame_journal.specs.Devices.{SameStrip, KeepsBytes, LeavesNoMore, OfBytes, OfImages, Spans};
 ghost use Rattle.frame_journal.specs.JournalState.{has_staged};
 ghost use Rattle.frame_journal.specs.Frames.{frames_of};
 ghost use Rattle.entry_code.specs.Payloads.{entry_field, entry_fields};
 ghost use Rattle.wal_log.specs.declared.limits.TheConstants.{PENDING_MAX};
 ghost use Rattle.wal_log.specs.Logs.{HasEntries};
-ghost use Rattle.wal_log.specs.Answers.{IsRefused, LogErrorOf, LogCause};
+ghost use Rattle.wal_log.specs.Answers.{IsRefused, IsOfSynced, LogErrorOf, LogCause};
 ghost use Rattle.wal_log.specs.Calls.{KeepsLists, HasFront, HasAll};
 
 use crate::LogError;
@@ -87,6 +87,7 @@ impl<S: Strip> Segment<S> {
         ensures idle { IfOk result (λ found. has_staged found.0.journal ≡ false) }
         ensures narrows { IfOk result (λ found. Narrows (S.may_leave strip) (S.may_leave found.0.journal.strip)) }
         ensures time { IfOk result (λ found. Spans S.Strip strip found.0.journal.strip) }
+        ensures crash { IfOk result (λ found. LeavesNoMore S.Strip strip found.0.journal.strip) }
         ensures time_back { IfErr result (λ refused. Spans S.Strip strip refused.0) }
 
         // A torn header first, then frame by frame a wrong payload or a number that does not follow.
@@ -94,6 +95,8 @@ impl<S: Strip> Segment<S> {
         ensures back { IfErr result (λ refused. SameStrip S.Strip 3 strip refused.0
             × KeepsBytes S.Strip strip refused.0) }
         ensures images { IfErr result (λ refused. Narrows (S.may_leave strip) (S.may_leave refused.0)) }
+        ensures crash_back { IfErr result (λ refused. LeavesNoMore S.Strip strip refused.0) }
+        ensures synced_back { IfErr result (λ refused. IsOfSynced S.Strip refused.0 refused.1) }
         ensures cause { IfErr result
             (λ refused. LogCause (S.book strip) (S.count strip) (S.count refused.0) refused.1) }
     {
@@ -167,6 +170,7 @@ impl<S: Strip> Segment<S> {
         ensures number { result ≡ self.old.first + length self.old.entries }
         ensures entries { self.new.entries ≡ self.old.entries ++ entry.now ∷ [] }
         ensures pending { self.new.batch.entries ≡ self.old.batch.entries ++ entry.now ∷ [] }
+        ensures left { self.old.batch.room ≤ self.new.batch.room + length (entry_field entry.now) }
         ensures synced { self.new.synced ≡ self.old.synced }
         ensures written { self.new.written ≡ self.old.written }
         ensures same { (self.new.number ≡ self.old.number) × (self.new.first ≡ self.old.first) }
@@ -195,7 +199,7 @@ impl<S: Strip> Segment<S> {
     }
 }
 
-/// Why a journal is not opened, told of a log.
+/// Why a journal is not opened, as a log says it.
 fn told_of(number: u64, error: JournalError) -> LogError
     ensures { LogErrorOf number error result }
 {

@@ -1,7 +1,8 @@
 //! How a segment gets its header.
 ghost use Rattle.std.specs.Prelude.{◌≡◌, ◌+◌, ◌≤◌, true, false, Ok, OnOk, OnErr};
-ghost use Rattle.frame_journal.specs.Devices.{CauseIn};
+ghost use Rattle.frame_journal.specs.Devices.{CauseIn, OfBytes, OfImages};
 ghost use Rattle.frame_journal.specs.JournalState.{is_ready, has_staged};
+ghost use Rattle.wal_log.specs.Logs.{HasHeader};
 ghost use Rattle.wal_log.specs.Calls.{SameEntries, KeepsLists, StripCalls};
 
 use crate::Segment;
@@ -14,6 +15,9 @@ impl<S: Strip> Segment<S> {
     /// Makes the header stand, where it does not. After a refusal the next start goes on from what was refused.
     pub fn start(&mut self, alloc: Global) -> Result<(), DeviceError>
         ensures headed { OnOk result (self.new.headed ≡ true) }
+        // The header stands, as a read gives it and in each crash image.
+        ensures header { OnOk result (OfBytes S.Strip self.new.journal.strip HasHeader
+            × OfImages S.Strip self.new.journal.strip HasHeader) }
         ensures nothing { self.old.headed ≡ true → (result ≡ Ok tt) × (self.new ≡ self.old) }
         ensures same { SameEntries self.old self.new }
         ensures batch { self.new.batch ≡ self.old.batch }
@@ -28,7 +32,9 @@ impl<S: Strip> Segment<S> {
             return Ok(());
         }
         self.prepare(alloc)?;
-        self.settle_staged(alloc)
+        self.settle_staged(alloc)?;
+        self.tell_images();
+        Ok(())
     }
 
     /// Clears the strip and stages the header, as far as that was not done.

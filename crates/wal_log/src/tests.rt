@@ -1,5 +1,5 @@
 //! The bytes of a segment, written out by hand; each device call failing alone; and each refusal of an opening.
-use crate::{LogError, PENDING_MAX, Segment};
+use crate::{PENDING_MAX, Segment};
 use disk_model::{DeviceError, MemoryStrip};
 use rdb_base::{Change, Entry, Key, NUMBER_MAX, Value};
 use std::alloc::Global;
@@ -45,20 +45,37 @@ fn flush(alloc: Global, segment: &mut Segment<MemoryStrip>) -> Result<Option<u64
     }
 }
 
-#[test]
-fn a_put_that_is_flushed_has_these_bytes(rt: HostRuntime) -> Result<(), Fail> {
-    let alloc = rt.alloc();
-    let Ok((mut segment, entries)) = Segment::open(alloc, strip_of(alloc, b"", &[])?, 0, 0) else {
+fn opened(alloc: Global, strip: MemoryStrip) -> Option<(Segment<MemoryStrip>, Vec<Entry>)> {
+    Segment::open(alloc, strip, 0, 0).ok()
+}
+
+/// The segment of an empty strip, started.
+fn started(alloc: Global) -> Result<Segment<MemoryStrip>, Fail> {
+    let Some((mut segment, _entries)) = opened(alloc, strip_of(alloc, b"", &[])?) else {
         return Err("an empty strip is opened")?;
     };
-    assert!(rt; entries.is_empty() && !segment.is_started());
+    if segment.is_started() {
+        return Err("no header stands there")?;
+    }
     segment.start(alloc)?;
-    assert_eq!(rt; push(alloc, &mut segment, &entry_of(alloc, 0, b"a")?)?, 0);
-    assert_eq!(rt; segment.pending(), 20);
-    assert_eq!(rt; flush(alloc, &mut segment)?, Some(1));
-    assert_eq!(rt; segment.pending(), 0);
-    assert_eq!(rt; segment.end(), 1);
-    assert_eq!(rt; segment.into_strip().as_bytes(), ONE);
+    Ok(segment)
+}
+
+/// How many bytes are pending, and the number after the last entry.
+fn state_of(segment: &Segment<MemoryStrip>) -> (usize, u64) {
+    (segment.pending(), segment.end())
+}
+
+#[test]
+fn a_put_that_is_flushed_has_these_bytes(rt: HostRuntime) -> Result<(), Fail> {
+    let mut segment = started(rt.alloc())?;
+    let entry = entry_of(rt.alloc(), 0, b"a")?;
+    assert_eq!(rt; push(rt.alloc(), &mut segment, &entry)?, 0);
+    assert_eq!(rt; state_of(&segment), (20, 1));
+    assert_eq!(rt; flush(rt.alloc(), &mut segment)?, Some(1));
+    assert_eq!(rt; state_of(&segment), (0, 1));
+    let strip = segment.into_strip();
+    assert_eq!(rt; strip.as_bytes(), ONE);
     Ok(())
 }
 
@@ -72,9 +89,18 @@ fn changed(alloc: Global, at: usize, bytes: &[u8]) -> Result<Vec<u8>, Fail> {
     Ok(made)
 }
 
+/// Why ONE with these bytes from this place on is refused, as it is printed.
+fn refusal(alloc: Global, at: usize, bytes: &[u8]) -> Result<String, Fail> {
+    let made = changed(alloc, at, bytes)?;
+    let strip = strip_of(alloc, made.as_slice(), &[])?;
+    let Some((_strip, error)) = Segment::open(alloc, strip, 0, 0).err() else {
+        return Err("it was opened")?;
+    };
+    Ok(format!(in alloc; "{error}")?)
+}
+
 #[test]
 fn what_is_no_segment_is_refused_by_name(rt: HostRuntime) -> Result<(), Fail> {
-    let alloc = rt.alloc();
     let rows: [(usize, &[u8], &str); 7] = [
         (60, b"\xA5", "TornHeader strip 0 at 60"),
         (5, b"\x01", "BadEntry strip 0 frame 0 at 0"),
@@ -89,13 +115,8 @@ fn what_is_no_segment_is_refused_by_name(rt: HostRuntime) -> Result<(), Fail> {
         (21, b"\x02", "LogGap want 2 found 0"),
     ];
     for (at, bytes, wanted) in rows {
-        let strip = strip_of(alloc, changed(alloc, at, bytes)?.as_slice(), &[])?;
-        match Segment::open(alloc, strip, 0, 0) {
-            Ok(_opened) => Err("it was opened")?,
-            Err((_strip, error)) => {
-                assert_eq!(rt; format!(in alloc; "{error}")?.as_str(), wanted);
-            }
-        }
+        let refused = refusal(rt.alloc(), at, bytes)?;
+        assert_eq!(rt; refused.as_str(), wanted);
     }
     Ok(())
 }
@@ -118,7 +139,26 @@ fn push_and_flush(
     Ok(flush(alloc, segment)?.is_some())
 }
 
-/// Opens and starts a segment, and then pushes and flushes two entries, up to the first fault.
+/// Starts a segment, and then pushes and flushes two entries, up to the first fault. How many entries were pushed, and
+/// how many of them are surely synced.
+fn pushed_and_synced(
+    alloc: Global,
+    segment: &mut Segment<MemoryStrip>,
+    entries: &[Entry; 2],
+) -> Result<(usize, usize), Fail> {
+    if segment.start(alloc).is_err() {
+        return Ok((0, 0));
+    }
+    if !push_and_flush(alloc, segment, &entries[0])? {
+        return Ok((1, 0));
+    }
+    if !push_and_flush(alloc, segment, &entries[1])? {
+        return Ok((2, 1));
+    }
+    Ok((2, 2))
+}
+
+/// The same of a strip that is opened first.
 fn until_a_fault(alloc: Global, strip: MemoryStrip, entries: &[Entry; 2]) -> Result<Stopped, Fail> {
     let mut segment = match Segment::open(alloc, strip, 0, 0) {
         Ok((segment, _entries)) => segment,
@@ -128,20 +168,9 @@ fn until_a_fault(alloc: Global, strip: MemoryStrip, entries: &[Entry; 2]) -> Res
             pushed: 0,
         }),
     };
-    let (mut synced, mut pushed) = (0, 0);
-    if segment.start(alloc).is_ok() {
-        pushed = 1;
-        if push_and_flush(alloc, &mut segment, &entries[0])? {
-            synced = 1;
-            pushed = 2;
-            if push_and_flush(alloc, &mut segment, &entries[1])? {
-                synced = 2;
-            }
-        }
-    }
-    let strip = segment.into_strip();
+    let (pushed, synced) = pushed_and_synced(alloc, &mut segment, entries)?;
     Ok(Stopped {
-        strip,
+        strip: segment.into_strip(),
         synced,
         pushed,
     })
@@ -149,10 +178,10 @@ fn until_a_fault(alloc: Global, strip: MemoryStrip, entries: &[Entry; 2]) -> Res
 
 /// How many entries a strip has.
 fn count_on(alloc: Global, strip: MemoryStrip) -> Result<usize, Fail> {
-    match Segment::open(alloc, strip, 0, 0) {
-        Ok((_segment, entries)) => Ok(entries.len()),
-        Err((_strip, _error)) => Err("the strip is a segment's")?,
-    }
+    let Some((_segment, entries)) = opened(alloc, strip) else {
+        return Err("the strip is a segment's")?;
+    };
+    Ok(entries.len())
 }
 
 #[test]
