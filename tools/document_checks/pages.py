@@ -114,6 +114,8 @@ class PageChecks:
     def _has_path(self, page: Page, named: str) -> bool:
         """Whether a file is there: from the top, beside the page, or in a crate. NAME stands for any name."""
         top = self._sources.top
+        if named.startswith("/"):
+            return Path(named).exists()
         pattern = re.sub(r"^\./", "", named).rstrip("/")
         if not (top / pattern).exists():
             pattern = re.sub(r"\b[A-Z]+\b", "*", pattern)

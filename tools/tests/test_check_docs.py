@@ -174,6 +174,7 @@ class Paths(Checked):
 
     def test_other_paths_and_links_are_wrong(self) -> None:
         self.assert_wrong("`src/main.rt`", "1: there is no src/main.rt")
+        self.assert_wrong("`/none/such.rt`", "1: there is no /none/such.rt")
         self.assert_wrong("[a](docs/none.md)", "1: the link docs/none.md leads nowhere")
         self.assert_wrong("[a](#there)", "1: the link #there names no heading")
 
