@@ -31,6 +31,10 @@ is_listed s = list_any (λ call. call == s.calls) s.failing
 abbrev pub FailsAsListed : {T : Type 0} → ShelfState → Result T DeviceError → Type 0
 FailsAsListed s result = MatchBool (is_listed s) (IsErr result) (IfErr result (λ e. e ≡ Memory))
 
+-- a call that is to fail answers a fault of its book, and any other fails only where it is out of memory
+abbrev pub ReadsAsListed : {T : Type 0} → ShelfState → Result T DeviceError → Type 0
+ReadsAsListed s result = MatchBool (is_listed s) (result ≡ Err (Fault s.book.name)) (IfErr result (λ e. e ≡ Memory))
+
 -- a call that is to fail answers a fault of its book, and any other succeeds
 abbrev pub EndsAsListed : {T : Type 0} → ShelfState → Result T DeviceError → Type 0
 EndsAsListed s result = MatchBool (is_listed s) (result ≡ Err (Fault s.book.name)) (IsOk result)

@@ -18,7 +18,7 @@ pub const FOLDER: u8 = 11;
 /// The highest number of a strip.
 pub const STRIP_MAX: u8 = 9;
 
-/// The highest number of a device.
+/// The highest number of a device. Replies name devices below it only: the folder is opened before a session begins.
 pub const DEVICE_MAX: u8 = 11;
 
 /// What a crash in memory may be picked to leave in place of each unsynced byte: all bits set, as erased memory has.

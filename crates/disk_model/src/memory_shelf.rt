@@ -127,7 +127,7 @@ impl Shelf for MemoryShelf {
     ghost use Rattle.disk_model.specs.Pasts.{LeftSince};
     ghost use Rattle.disk_model.specs.PastLaws.{since-earlier, since-now};
     ghost use Rattle.disk_model.specs.Shelves.{Puts, PutsOrNot, Removes, RemovesOrNot, AreNumbersOf};
-    ghost use Rattle.disk_model.specs.ShelfState.{FailsAsListed, EndsAsListed, ShelfGoes, IsShelfCall};
+    ghost use Rattle.disk_model.specs.ShelfState.{FailsAsListed, ReadsAsListed, EndsAsListed, ShelfGoes, IsShelfCall};
     ghost use Rattle.disk_model.specs.Slots.{stored_slot, put_failed, removed, remove_failed, slot_at, file_at, MayLeaveFiles, SetsSlot};
     ghost use Rattle.disk_model.specs.SlotLaws.{own-image};
     ghost use Rattle.std.proofs.Common.{inl};
@@ -182,7 +182,7 @@ impl Shelf for MemoryShelf {
     }
 
     fn get(&mut self, alloc: Global, number: u64) -> Result<Option<Vec<u8>>, DeviceError>
-        ensures listed { FailsAsListed self.old result }
+        ensures listed { ReadsAsListed self.old result }
         ensures state { ShelfGoes self.old self.new (λ files. files ≡ self.old.files)
             (λ files. files ≡ self.old.files) result }
         ensures found { IfOk result (λ found.
@@ -217,7 +217,7 @@ impl Shelf for MemoryShelf {
     }
 
     fn list(&mut self, alloc: Global) -> Result<Vec<u64>, DeviceError>
-        ensures listed { FailsAsListed self.old result }
+        ensures listed { ReadsAsListed self.old result }
         ensures state { ShelfGoes self.old self.new (λ files. files ≡ self.old.files)
             (λ files. files ≡ self.old.files) result }
         ensures numbers { IfOk result (λ numbers. AreNumbersOf numbers.items (file_at self.old.files)) }

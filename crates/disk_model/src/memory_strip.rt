@@ -12,8 +12,9 @@ use std::marker::Model;
 /// A strip in memory. Contracts see its bytes and its crash images: it keeps the bytes of its last sync,
 /// and which ranges changed since then.
 ///
-/// The calls with the numbers of a list fail, and no other: such a call changes nothing of the
-/// content, and of a write or a cut the crash images are as after one without a sync.
+/// The calls with the numbers of a list fail. Of the others only a write and a cut may fail, where memory runs out.
+/// A failed call changes nothing that a read gives. But a crash after a failed write or cut may leave it done, or done
+/// in part, as it may after one that was not synced.
 #[derive(Drop)]
 pub struct MemoryStrip {
     book: FaultBook,
