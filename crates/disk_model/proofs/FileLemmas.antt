@@ -1,10 +1,10 @@
 -- A file in memory stays sound. To know: sound-failed, sound-cut, sound-written, images-goes.
-use Rattle.std.proofs.Common.{◌≡◌, inl, inr, ℕ, ◌+◌, ◌≤◌, min, List, [], ◌∷◌, ◌++◌, length, take, Result, Ok, Err, sym, ◌∙◌, ap, subst, arith, length-take}
+use Rattle.std.proofs.Common.{◌≡◌, ℕ, ◌+◌, ◌≤◌, min, List, [], ◌∷◌, ◌++◌, length, take, Result, Ok, Err, sym, ◌∙◌, ap, subst, arith, length-take}
 use Rattle.std.proofs.lemmas.List.{take-take}
 use Rattle.disk_model.specs.Crashes.{Follows}
-use Rattle.disk_model.specs.FileState.{FileState, Alters, MayLeave, written, changed}
+use Rattle.disk_model.specs.FileState.{FileState, Alters, MayLeave, IsSoundFile, written, changed}
 use Rattle.disk_model.specs.FileLaws.{torn_held, cut_taken, alters_same, alter_all-pushed, images-changed, images-same}
-use Rattle.disk_model.specs.MemoryState.{MemoryState, IsSoundFile, FileAfter, Goes}
+use Rattle.disk_model.specs.MemoryState.{MemoryState, HeldAfter, Goes}
 use Rattle.disk_model.specs.declared.change.Change.{Change}
 use Rattle.disk_model.specs.declared.change.Change.TheVariants.{Written, CutTo}
 use Rattle.disk_model.specs.declared.device_error.DeviceError.{DeviceError}
@@ -53,12 +53,11 @@ module _ (bytes synced : List ℕ) (changes : List Change) (same capacity synced
 
 -- each image after a call is one from before it, altered
 images-file : {T : Type 0} (change : Change) (old new : FileState) (bytes : List ℕ) (result : Result T DeviceError) → Alters change old.bytes bytes
-    → FileAfter old (record (changed change old) { bytes = bytes }) (changed change old) result new → Follows (Alters change) (MayLeave old) (MayLeave new)
+    → HeldAfter old (λ file. file ≡ record (changed change old) { bytes = bytes }) (λ file. file ≡ changed change old) result new → Follows (Alters change) (MayLeave old) (MayLeave new)
 images-file change old new bytes (Ok x) own after = subst (λ (f : FileState). Follows (Alters change) (MayLeave old) (MayLeave f)) (sym after) (images-changed old change bytes own)
 images-file change old new bytes (Err (Fault unit)) own after = subst (λ (f : FileState). Follows (Alters change) (MayLeave old) (MayLeave f)) (sym after) (images-changed old change old.bytes (alters_same change old.bytes))
-images-file change old new bytes (Err Memory) own (inl after) = subst (λ (f : FileState). Follows (Alters change) (MayLeave old) (MayLeave f)) (sym after) (images-same old change)
-images-file change old new bytes (Err Memory) own (inr after) = subst (λ (f : FileState). Follows (Alters change) (MayLeave old) (MayLeave f)) (sym after) (images-changed old change old.bytes (alters_same change old.bytes))
+images-file change old new bytes (Err Memory) own after = subst (λ (f : FileState). Follows (Alters change) (MayLeave old) (MayLeave f)) (sym after) (images-same old change)
 
-pub images-goes : {T : Type 0} {old new : MemoryState} {result : Result T DeviceError} (change : Change) (bytes : List ℕ) → Alters change old.file.bytes bytes
-    → Goes old new (record (changed change old.file) { bytes = bytes }) (changed change old.file) result → Follows (Alters change) (MayLeave old.file) (MayLeave new.file)
-images-goes {T} {old} {new} {result} change bytes own goes = images-file change old.file new.file bytes result own goes.file
+pub images-goes : {T : Type 0} {old new : MemoryState FileState} {result : Result T DeviceError} (change : Change) (bytes : List ℕ) → Alters change old.held.bytes bytes
+    → Goes old new (λ file. file ≡ record (changed change old.held) { bytes = bytes }) (λ file. file ≡ changed change old.held) result → Follows (Alters change) (MayLeave old.held) (MayLeave new.held)
+images-goes {T} {old} {new} {result} change bytes own goes = images-file change old.held new.held bytes result own goes.held

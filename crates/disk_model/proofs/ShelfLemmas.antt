@@ -1,11 +1,9 @@
--- What a call of a shelf in memory means for its files. To know: puts-set, files_kept, removes-set, images-goes_put, images-goes_remove, call-shelf.
+-- What a call of a shelf in memory means for its files. To know: puts-set, files_kept, removes-set, images-goes_put, images-goes_remove.
 use Rattle.std.specs.Global.{Vec}
-use Rattle.std.proofs.Common.{◌≡◌, inl, inr, ℕ, ◌==◌, if◌then◌else◌, List, [], ◌∷◌, length, Option, Some, None, Result, Ok, Err, refl, sym, ◌∙◌, ap, subst, arith}
+use Rattle.std.proofs.Common.{◌≡◌, inl, inr, ℕ, ◌==◌, if◌then◌else◌, List, [], ◌∷◌, Option, Some, None, Result, Ok, Err, refl, sym, ◌∙◌, ap, subst}
 use Rattle.std.proofs.lemmas.Bool.{cases_eq, eq-eqb, ne_eqb}
-use Rattle.disk_model.specs.Crashes.{Follows, Elapses}
-use Rattle.disk_model.specs.PastLaws.{since-push}
-use Rattle.disk_model.specs.Pasts.{LeftSince}
-use Rattle.disk_model.specs.ShelfState.{ShelfState, FilesAfter, ShelfGoes, IsShelfCall}
+use Rattle.disk_model.specs.Crashes.{Follows}
+use Rattle.disk_model.specs.MemoryState.{MemoryState, HeldAfter, Goes}
 use Rattle.disk_model.specs.Shelves.{Puts, PutsOrNot, Removes, RemovesOrNot}
 use Rattle.disk_model.specs.SlotLaws.{images-set, images-removed, images-remove_failed, images_same-put, images_same-remove}
 use Rattle.disk_model.specs.Slots.{stored_slot, removed, remove_failed, slot_at, file_at, MayLeaveFiles, OnlyFiles, MayBe, SetsSlot, with_file, with_files}
@@ -66,42 +64,22 @@ pub number-remove_failed : (slot : Slot) → (remove_failed slot).number ≡ slo
 number-remove_failed slot = number-remove_failed_parts slot.number slot.file slot.doubt
 
 -- each image after a put is one from before it, but for that number
-images-after_put : {T : Type 0} (number : ℕ) (done failed : Slot) (old new : List Slot) (result : Result T DeviceError) → FilesAfter old (SetsSlot number done old) (SetsSlot number failed old) result new → Follows (PutsOrNot number) (MayLeaveFiles old) (MayLeaveFiles new)
+images-after_put : {T : Type 0} (number : ℕ) (done failed : Slot) (old new : List Slot) (result : Result T DeviceError) → HeldAfter old (SetsSlot number done old) (SetsSlot number failed old) result new → Follows (PutsOrNot number) (MayLeaveFiles old) (MayLeaveFiles new)
 images-after_put number done failed old new (Ok x) after = images-set number done old new after
 images-after_put number done failed old new (Err (Fault unit)) after = images-set number failed old new after
 images-after_put number done failed old new (Err Memory) after = subst (λ (f : List Slot). Follows (PutsOrNot number) (MayLeaveFiles old) (MayLeaveFiles f)) (sym after) (images_same-put number old)
 
-pub images-goes_put : {T : Type 0} {number : ℕ} {done failed : Slot} {old new : ShelfState} {result : Result T DeviceError} → ShelfGoes old new (SetsSlot number done old.files) (SetsSlot number failed old.files) result → Follows (PutsOrNot number) (MayLeaveFiles old.files) (MayLeaveFiles new.files)
-images-goes_put {T} {number} {done} {failed} {old} {new} {result} goes = images-after_put number done failed old.files new.files result goes.files
+pub images-goes_put : {T : Type 0} {number : ℕ} {done failed : Slot} {old new : MemoryState (List Slot)} {result : Result T DeviceError} → Goes old new (SetsSlot number done old.held) (SetsSlot number failed old.held) result → Follows (PutsOrNot number) (MayLeaveFiles old.held) (MayLeaveFiles new.held)
+images-goes_put {T} {number} {done} {failed} {old} {new} {result} goes = images-after_put number done failed old.held new.held result goes.held
 
 -- each image after a remove is one from before it, with that file or without
-images-after_remove : {T : Type 0} (number : ℕ) (old new : List Slot) (result : Result T DeviceError) → FilesAfter old (SetsSlot number (removed (slot_at number old)) old) (SetsSlot number (remove_failed (slot_at number old)) old) result new → Follows (RemovesOrNot number) (MayLeaveFiles old) (MayLeaveFiles new)
+images-after_remove : {T : Type 0} (number : ℕ) (old new : List Slot) (result : Result T DeviceError) → HeldAfter old (SetsSlot number (removed (slot_at number old)) old) (SetsSlot number (remove_failed (slot_at number old)) old) result new → Follows (RemovesOrNot number) (MayLeaveFiles old) (MayLeaveFiles new)
 images-after_remove number old new (Ok x) after = images-removed number old new after
 images-after_remove number old new (Err (Fault unit)) after = images-remove_failed number old new after
 images-after_remove number old new (Err Memory) after = subst (λ (f : List Slot). Follows (RemovesOrNot number) (MayLeaveFiles old) (MayLeaveFiles f)) (sym after) (images_same-remove number old)
 
-pub images-goes_remove : {T : Type 0} {number : ℕ} {old new : ShelfState} {result : Result T DeviceError} → ShelfGoes old new (SetsSlot number (removed (slot_at number old.files)) old.files) (SetsSlot number (remove_failed (slot_at number old.files)) old.files) result → Follows (RemovesOrNot number) (MayLeaveFiles old.files) (MayLeaveFiles new.files)
-images-goes_remove {T} {number} {old} {new} {result} goes = images-after_remove number old.files new.files result goes.files
-
--- time goes on where a crash within the call may leave no less than one after it
-elapses-more : {C : Type 0} {before now : ℕ} {past since : ℕ → C → Type 0} {leaves more : C → Type 0} → Elapses before now past since leaves → ((c : C) → leaves c → more c) → Elapses before now past since more
-elapses-more elapses grow = record {
-  later = elapses.later;
-  nothing_else = λ t c le left. elim (elapses.nothing_else t c le left) [ inl earlier ↦ inl earlier | inr now ↦ inr (grow c now) ];
-  keeps = elapses.keeps;
-}
-
--- what a call of a shelf in memory does is what each call of a shelf keeps to
-pub call-shelf : {T : Type 0} {leaves : ShelfState → (ℕ → Option (List ℕ)) → Type 0} {done failed : List Slot → Type 0} {old new : ShelfState} {result : Result T DeviceError} → ShelfGoes old new done failed result
-    → ((c : ℕ → Option (List ℕ)) → MayLeaveFiles new.files c → leaves new c) → IsShelfCall leaves old new result
-call-shelf {T} {leaves} {done} {failed} {old} {new} goes grow = record {
-  book = goes.name;
-  tells = refl;
-  tells_images = refl;
-  calls = omega (arith, goes.calls);
-  time = elapses-more (subst (λ (p : List (List Slot)). Elapses (length old.past) (length p) (LeftSince MayLeaveFiles old.past old.files) (LeftSince MayLeaveFiles p new.files) (MayLeaveFiles new.files)) (sym goes.past) (since-push MayLeaveFiles old.past old.files new.files)) grow;
-  cause = goes.cause;
-}
+pub images-goes_remove : {T : Type 0} {number : ℕ} {old new : MemoryState (List Slot)} {result : Result T DeviceError} → Goes old new (SetsSlot number (removed (slot_at number old.held)) old.held) (SetsSlot number (remove_failed (slot_at number old.held)) old.held) result → Follows (RemovesOrNot number) (MayLeaveFiles old.held) (MayLeaveFiles new.held)
+images-goes_remove {T} {number} {old} {new} {result} goes = images-after_remove number old.held new.held result goes.held
 
 -- files over files that are the same
 pub with_files-same : (more : List (ℕ × Vec ℕ)) (a b : ℕ → Option (List ℕ)) → ((n : ℕ) → a n ≡ b n) → (n : ℕ) → with_files a more n ≡ with_files b more n

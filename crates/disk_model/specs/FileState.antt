@@ -1,5 +1,5 @@
 -- The bytes of a strip in memory: what a read gives, what was synced last, and what changed since then.
-use Rattle.std.specs.Prelude.{◌≡◌, ◌⊎◌, ℕ, zero, suc, ◌+◌, ◌%◌, List, [], ◌∷◌, ◌++◌, length, take, drop}
+use Rattle.std.specs.Prelude.{◌≡◌, ◌⊎◌, ℕ, zero, suc, ◌+◌, ◌≤◌, ◌%◌, List, [], ◌∷◌, ◌++◌, length, take, drop}
 use Rattle.disk_model.specs.Strips.{Torn, Cut}
 use Rattle.disk_model.specs.declared.change.Change.{Change}
 use Rattle.disk_model.specs.declared.change.Change.TheVariants.{Written, CutTo}
@@ -23,6 +23,16 @@ AlterAll (change ∷ changes) from image = (mid : List ℕ) × Alters change fro
 -- what a crash may leave: what a read gives, or what the changes may make of the bytes that were synced
 abbrev pub MayLeave : FileState → List ℕ → Type 0
 MayLeave file image = (image ≡ file.bytes) ⊎ AlterAll file.changes file.synced image
+
+-- a file's parts agree: up to a place nothing changed, each buffer has room for the other's bytes, and the changes
+-- lead from the synced bytes to those that a read gives
+pub record IsSoundFile (bytes synced : List ℕ) (changes : List Change) (same capacity synced_capacity : ℕ) : Type 0 where
+  pub front : take same synced ≡ take same bytes
+  pub within : same ≤ length bytes
+  pub within_synced : same ≤ length synced
+  pub room : length synced ≤ capacity
+  pub synced_room : length bytes ≤ synced_capacity
+  pub own : AlterAll changes synced bytes
 
 -- these bytes with another in place of each in a range
 unfoldable pub marked_in : ℕ → List ℕ → ℕ → ℕ → List ℕ

@@ -9,10 +9,10 @@ pub mod MemoryState
 pub mod PastLaws
 pub mod Pasts
 pub mod Piles
-pub mod ShelfState
 pub mod Shelves
 pub mod SlotLaws
 pub mod Slots
 pub mod SteadyState
 pub mod Strips
+pub mod Tallies
 pub mod Told

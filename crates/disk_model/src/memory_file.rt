@@ -18,8 +18,7 @@ pub(crate) struct MemoryFile {
 }
 
 impl Model for MemoryFile {
-    ghost use Rattle.disk_model.specs.FileState.{FileState};
-    ghost use Rattle.disk_model.specs.MemoryState.{IsSoundFile};
+    ghost use Rattle.disk_model.specs.FileState.{FileState, IsSoundFile};
     ghost use Rattle.std.specs.Prelude.{vec_capacity};
 
     ghost Value = { FileState };

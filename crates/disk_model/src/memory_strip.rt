@@ -5,7 +5,8 @@ use crate::change::Change;
 use crate::limits::STRIP_MAX;
 use crate::memory_file::MemoryFile;
 use crate::past::Past;
-use crate::{DeviceError, FaultBook, Strip};
+use crate::tally::Tally;
+use crate::{DeviceError, Strip};
 use std::alloc::{AllocError, Global};
 use std::marker::Model;
 
@@ -17,31 +18,25 @@ use std::marker::Model;
 /// in part, as it may after one that was not synced.
 #[derive(Drop)]
 pub struct MemoryStrip {
-    book: FaultBook,
+    tally: Tally,
     file: MemoryFile,
     past: Past<MemoryFile>,
-    failing: Vec<u64>,
-    calls: u64,
 }
 
 impl Model for MemoryStrip {
+    ghost use Rattle.disk_model.specs.FileState.{FileState};
     ghost use Rattle.disk_model.specs.MemoryState.{MemoryState};
 
-    ghost Value = { MemoryState };
+    ghost Value = { MemoryState FileState };
 
-    ghost view = { λ s. record {
-      book = s.book;
-      file = s.file;
-      past = s.past;
-      failing = s.failing.items;
-      calls = s.calls;
-    } };
+    ghost view = { λ s. record { tally = s.tally; held = s.file; past = s.past } };
 }
 
 impl MemoryStrip {
     ghost use Rattle.disk_model.specs.Crashes.{Only};
     ghost use Rattle.disk_model.specs.FileState.{MayLeave, crash_image, file_of};
-    ghost use Rattle.disk_model.specs.MemoryState.{is_listed, begun};
+    ghost use Rattle.disk_model.specs.MemoryState.{begun};
+    ghost use Rattle.disk_model.specs.Tallies.{is_listed, restarted};
 
     /// A strip with these bytes, all of them synced. The calls with the numbers in `failing` fail,
     /// counted from 0 over all calls. It may answer `AllocError` at any time.
@@ -52,41 +47,39 @@ impl MemoryStrip {
         failing: Vec<u64>,
     ) -> Result<MemoryStrip, AllocError>
         requires { device ≤ STRIP_MAX }
-        ensures file { IfOk result (λ strip. strip.file ≡ file_of bytes.items) }
+        ensures file { IfOk result (λ strip. strip.held ≡ file_of bytes.items) }
         ensures past { IfOk result (λ strip. strip.past ≡ []) }
-        ensures failing { IfOk result (λ strip. strip.failing ≡ failing.items) }
-        ensures calls { IfOk result (λ strip. strip.calls ≡ 0) }
-        ensures device { IfOk result (λ strip. strip.book.name.device ≡ device) }
-        ensures faults { IfOk result (λ strip. strip.book.count ≡ 0) }
+        ensures failing { IfOk result (λ strip. strip.tally.failing ≡ failing.items) }
+        ensures calls { IfOk result (λ strip. strip.tally.calls ≡ 0) }
+        ensures device { IfOk result (λ strip. strip.tally.book.name.device ≡ device) }
+        ensures faults { IfOk result (λ strip. strip.tally.book.count ≡ 0) }
     {
         Ok(MemoryStrip {
-            book: FaultBook::new(alloc, device)?,
+            tally: Tally::new(alloc, device, failing)?,
             file: MemoryFile::new(alloc, bytes)?,
             past: Past::new(),
-            failing,
-            calls: 0,
         })
     }
 
     /// Its bytes.
     pub fn as_bytes(&self) -> &[u8]
-        ensures { result.now ≡ self.now.file.bytes }
+        ensures { result.now ≡ self.now.held.bytes }
     {
         self.file.as_bytes()
     }
 
     /// How many calls were made.
     pub fn calls(&self) -> u64
-        ensures { result ≡ self.now.calls }
+        ensures { result ≡ self.now.tally.calls }
     {
-        self.calls
+        self.tally.calls()
     }
 
     /// How many units were drawn from its book.
     pub fn faults(&self) -> u64
-        ensures { result ≡ self.now.book.count }
+        ensures { result ≡ self.now.tally.book.count }
     {
-        self.book.count()
+        self.tally.faults()
     }
 
     /// The strip after a crash now, which leaves one of its crash images. Of the bytes and the length
@@ -101,30 +94,26 @@ impl MemoryStrip {
     ///
     /// All is synced then. No call is to fail, and calls count from 0. The book goes on. It takes no memory.
     pub fn crash(mut self, pick: u64) -> MemoryStrip
-        ensures content { result.file.bytes ≡ crash_image pick self.file }
-        ensures image { MayLeave self.file result.file.bytes }
-        ensures synced { Only result.file.bytes (MayLeave result.file) }
-        ensures book { result.book ≡ self.book }
-        ensures past { result.past ≡ self.past ++ self.file ∷ [] }
-        ensures failing { result.failing ≡ [] }
-        ensures calls { result.calls ≡ 0 }
+        ensures file { result.held ≡ file_of (crash_image pick self.held) }
+        ensures content { result.held.bytes ≡ crash_image pick self.held }
+        ensures image { MayLeave self.held result.held.bytes }
+        ensures synced { Only result.held.bytes (MayLeave result.held) }
+        ensures tally { result.tally ≡ restarted self.tally }
+        ensures past { result.past ≡ self.past ++ self.held ∷ [] }
     {
         self.past.push(&self.file);
         self.file.crash(pick);
-        self.failing.clear();
-        self.calls = 0;
+        self.tally.restart();
         self
     }
 
     /// Counts a call, and answers whether it is to fail.
     fn begin(&mut self) -> bool
-        ensures listed { result ≡ is_listed self.old }
+        ensures listed { result ≡ is_listed self.old.tally }
         ensures state { self.new ≡ begun self.old }
     {
         self.past.push(&self.file);
-        let listed = self.failing.as_slice().contains(&self.calls);
-        self.calls = self.calls.saturating_add(1);
-        listed
+        self.tally.begin()
     }
 }
 
@@ -134,117 +123,122 @@ impl Strip for MemoryStrip {
     ghost use Rattle.disk_model.specs.Strips.{Holds, Fills, Torn, Cut};
     ghost use Rattle.disk_model.specs.FileState.{MayLeave, changed, file_written, file_cut, file_of};
     ghost use Rattle.disk_model.specs.Pasts.{LeftSince};
-    ghost use Rattle.disk_model.specs.MemoryState.{is_listed, FailsAsListed, EndsAsListed, Goes, IsMemoryCall};
+    ghost use Rattle.disk_model.specs.MemoryState.{Goes, IsMemoryCall};
+    ghost use Rattle.disk_model.specs.Tallies.{is_listed, FailsAsListed, EndsAsListed};
     ghost use Rattle.std.proofs.Common.{inl, refl};
     ghost use Rattle.disk_model.specs.PastLaws.{since-earlier, since-now};
     ghost use Rattle.disk_model.specs.declared.change.Change.TheVariants.{Written, CutTo};
 
-    ghost book = { λ s. s.book.name };
+    ghost book = { λ s. s.tally.book.name };
 
-    ghost count = { λ s. s.book.count };
+    ghost count = { λ s. s.tally.book.count };
 
-    ghost calls = { λ s. s.calls };
+    ghost calls = { λ s. s.tally.calls };
 
     ghost tells = { λ s. true };
 
-    ghost content = { λ s. s.file.bytes };
+    ghost content = { λ s. s.held.bytes };
 
     ghost tells_images = { λ s. true };
 
-    ghost may_leave = { λ s c. MayLeave s.file c };
+    ghost may_leave = { λ s c. MayLeave s.held c };
 
     ghost moment = { λ s. length s.past };
 
-    ghost left_since = { λ s t c. LeftSince MayLeave s.past s.file t c };
+    ghost left_since = { λ s t c. LeftSince MayLeave s.past s.held t c };
 
     ghost own_image = { λ s told images. inl refl };
 
     ghost counts_now = { λ s t c earlier now. inl now };
 
-    ghost counts_earlier = { λ s t u c earlier left. since-earlier MayLeave s.past s.file t u c earlier left };
+    ghost counts_earlier = { λ s t u c earlier left. since-earlier MayLeave s.past s.held t u c earlier left };
 
-    ghost only_now = { λ s c left. since-now MayLeave s.past s.file c left };
+    ghost only_now = { λ s c left. since-now MayLeave s.past s.held c left };
 
     fn len(&mut self, alloc: Global) -> Result<u64, DeviceError>
-        ensures listed { EndsAsListed self.old result }
-        ensures ok { is_listed self.old ≡ false → IsOk result }
-        ensures state { Goes self.old self.new self.old.file self.old.file result }
-        ensures length { IfOk result (λ len. len ≡ length self.old.file.bytes) }
+        ensures listed { EndsAsListed self.old.tally result }
+        ensures ok { is_listed self.old.tally ≡ false → IsOk result }
+        ensures state { Goes self.old self.new (λ file. file ≡ self.old.held)
+            (λ file. file ≡ self.old.held) result }
+        ensures length { IfOk result (λ len. len ≡ length self.old.held.bytes) }
         ensures short { IfOk result (λ len. len < 2 ^ 63) }
-        ensures content { self.new.file.bytes ≡ self.old.file.bytes }
-        ensures images { Narrows (MayLeave self.old.file) (MayLeave self.new.file) }
-        ensures call { IsMemoryCall self.old self.new result }
+        ensures content { self.new.held.bytes ≡ self.old.held.bytes }
+        ensures images { Narrows (MayLeave self.old.held) (MayLeave self.new.held) }
+        ensures call { IsMemoryCall MayLeave (λ s. MayLeave s.held) self.old self.new result }
     {
         if self.begin() {
-            return Err(self.book.fail(alloc));
+            return Err(self.tally.fail(alloc));
         }
         Ok(self.file.as_bytes().len() as u64)
     }
 
     fn read(&mut self, alloc: Global, at: u64, into: &mut [u8]) -> Result<usize, DeviceError>
-        ensures listed { EndsAsListed self.old result }
-        ensures ok { is_listed self.old ≡ false → IsOk result }
-        ensures state { Goes self.old self.new self.old.file self.old.file result }
-        ensures filled { IfOk result (λ count. Fills self.old.file.bytes at count into.old into.new) }
+        ensures listed { EndsAsListed self.old.tally result }
+        ensures ok { is_listed self.old.tally ≡ false → IsOk result }
+        ensures state { Goes self.old self.new (λ file. file ≡ self.old.held)
+            (λ file. file ≡ self.old.held) result }
+        ensures filled { IfOk result (λ count. Fills self.old.held.bytes at count into.old into.new) }
         ensures fits { IfOk result (λ count. count ≤ length into.old) }
-        ensures content { self.new.file.bytes ≡ self.old.file.bytes }
-        ensures images { Narrows (MayLeave self.old.file) (MayLeave self.new.file) }
-        ensures call { IsMemoryCall self.old self.new result }
+        ensures content { self.new.held.bytes ≡ self.old.held.bytes }
+        ensures images { Narrows (MayLeave self.old.held) (MayLeave self.new.held) }
+        ensures call { IsMemoryCall MayLeave (λ s. MayLeave s.held) self.old self.new result }
     {
         if self.begin() {
-            return Err(self.book.fail(alloc));
+            return Err(self.tally.fail(alloc));
         }
         Ok(read_from(self.file.as_bytes(), at, into))
     }
 
     fn write_at(&mut self, alloc: Global, at: u64, bytes: &[u8]) -> Result<(), DeviceError>
-        requires { at ≤ length self.old.file.bytes }
-        ensures listed { FailsAsListed self.old result }
-        ensures state { Goes self.old self.new (file_written at bytes.now self.old.file)
-            (changed (Written at (length bytes.now)) self.old.file) result }
-        ensures written { OnOk result (Holds self.old.file.bytes at bytes.now self.new.file.bytes) }
-        ensures refused { OnErr result (self.new.file.bytes ≡ self.old.file.bytes) }
+        requires { at ≤ length self.old.held.bytes }
+        ensures listed { FailsAsListed self.old.tally result }
+        ensures state { Goes self.old self.new (λ file. file ≡ file_written at bytes.now self.old.held)
+            (λ file. file ≡ changed (Written at (length bytes.now)) self.old.held) result }
+        ensures written { OnOk result (Holds self.old.held.bytes at bytes.now self.new.held.bytes) }
+        ensures refused { OnErr result (self.new.held.bytes ≡ self.old.held.bytes) }
         ensures short { OnOk result (at + length bytes.now < 2 ^ 63) }
-        ensures images { Follows (Torn at (length bytes.now)) (MayLeave self.old.file) (MayLeave self.new.file) }
-        ensures call { IsMemoryCall self.old self.new result }
+        ensures images { Follows (Torn at (length bytes.now)) (MayLeave self.old.held) (MayLeave self.new.held) }
+        ensures call { IsMemoryCall MayLeave (λ s. MayLeave s.held) self.old self.new result }
     {
         let count = bytes.len() as u64;
         if self.begin() {
             self.file.fail(Change::Written { at, count })?;
-            return Err(self.book.fail(alloc));
+            return Err(self.tally.fail(alloc));
         }
         self.file.write(at, bytes)?;
         Ok(())
     }
 
     fn cut(&mut self, alloc: Global, at: u64) -> Result<(), DeviceError>
-        requires { at ≤ length self.old.file.bytes }
-        ensures listed { FailsAsListed self.old result }
-        ensures state { Goes self.old self.new (file_cut at self.old.file) (changed (CutTo at) self.old.file) result }
-        ensures cut { OnOk result (self.new.file.bytes ≡ take at self.old.file.bytes) }
-        ensures refused { OnErr result (self.new.file.bytes ≡ self.old.file.bytes) }
-        ensures images { Follows (Cut at) (MayLeave self.old.file) (MayLeave self.new.file) }
-        ensures call { IsMemoryCall self.old self.new result }
+        requires { at ≤ length self.old.held.bytes }
+        ensures listed { FailsAsListed self.old.tally result }
+        ensures state { Goes self.old self.new (λ file. file ≡ file_cut at self.old.held)
+            (λ file. file ≡ changed (CutTo at) self.old.held) result }
+        ensures cut { OnOk result (self.new.held.bytes ≡ take at self.old.held.bytes) }
+        ensures refused { OnErr result (self.new.held.bytes ≡ self.old.held.bytes) }
+        ensures images { Follows (Cut at) (MayLeave self.old.held) (MayLeave self.new.held) }
+        ensures call { IsMemoryCall MayLeave (λ s. MayLeave s.held) self.old self.new result }
     {
         if self.begin() {
             self.file.fail(Change::CutTo { at })?;
-            return Err(self.book.fail(alloc));
+            return Err(self.tally.fail(alloc));
         }
         self.file.cut(at)?;
         Ok(())
     }
 
     fn sync(&mut self, alloc: Global) -> Result<(), DeviceError>
-        ensures listed { EndsAsListed self.old result }
-        ensures ok { is_listed self.old ≡ false → IsOk result }
-        ensures state { Goes self.old self.new (file_of self.old.file.bytes) self.old.file result }
-        ensures durable { OnOk result (Only self.old.file.bytes (MayLeave self.new.file)) }
-        ensures content { self.new.file.bytes ≡ self.old.file.bytes }
-        ensures images { Narrows (MayLeave self.old.file) (MayLeave self.new.file) }
-        ensures call { IsMemoryCall self.old self.new result }
+        ensures listed { EndsAsListed self.old.tally result }
+        ensures ok { is_listed self.old.tally ≡ false → IsOk result }
+        ensures state { Goes self.old self.new (λ file. file ≡ file_of self.old.held.bytes)
+            (λ file. file ≡ self.old.held) result }
+        ensures durable { OnOk result (Only self.old.held.bytes (MayLeave self.new.held)) }
+        ensures content { self.new.held.bytes ≡ self.old.held.bytes }
+        ensures images { Narrows (MayLeave self.old.held) (MayLeave self.new.held) }
+        ensures call { IsMemoryCall MayLeave (λ s. MayLeave s.held) self.old self.new result }
     {
         if self.begin() {
-            return Err(self.book.fail(alloc));
+            return Err(self.tally.fail(alloc));
         }
         self.file.sync();
         Ok(())

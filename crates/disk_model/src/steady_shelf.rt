@@ -39,7 +39,7 @@ impl Shelf for SteadyShelf {
     ghost use Rattle.std.specs.Prelude.{true, false, option_map, IsOk, IfOk, IfErr, OnOk, OnErr};
     ghost use Rattle.disk_model.specs.Shelves.{Puts, Removes, AreNumbersOf};
     ghost use Rattle.disk_model.specs.Slots.{file_at};
-    ghost use Rattle.disk_model.specs.ShelfState.{IsSteadyShelfCall};
+    ghost use Rattle.disk_model.specs.SteadyState.{IsSteadyShelfCall};
     ghost use Rattle.disk_model.specs.declared.limits.TheConstants.{SHELF};
     ghost use Rattle.disk_model.specs.declared.device_error.DeviceError.TheVariants.{Memory};
 

@@ -1,7 +1,7 @@
 -- A front of the bytes is left.
 use Rattle.std.proofs.Common.{ℕ, [], ◌∷◌, ◌++◌, take, subst, rules}
 use Rattle.std.specs.Prelude.{vec_capacity}
-use Rattle.disk_model.specs.MemoryState.{IsSoundFile}
+use Rattle.disk_model.specs.FileState.{IsSoundFile}
 use Rattle.disk_model.specs.declared.change.Change.TheVariants.{CutTo}
 use Rattle.disk_model.proofs.FileLemmas.{sound-cut}
 use Rattle.disk_model.proofs.memory_file.MemoryFile.cut.Goals as goal

@@ -1,23 +1,23 @@
 -- By what the call made of the files.
 use Rattle.std.proofs.Common.{rules}
 use Rattle.disk_model.specs.Slots.{MayLeaveFiles}
-use Rattle.disk_model.proofs.ShelfLemmas.{call-shelf}
+use Rattle.disk_model.proofs.CauseLemmas.{call-goes}
 use Rattle.disk_model.proofs.memory_shelf.MemoryShelfShelf.get.Goals as goal
 
 pub returns-then-begin-clause-state : goal.returns-then-begin-clause-state
 returns-then-begin-clause-state c = search rules
 
 pub returns-then-begin-clause-call : goal.returns-then-begin-clause-call
-returns-then-begin-clause-call c = call-shelf {leaves = λ s. MayLeaveFiles s.files} (returns-then-begin-clause-state c) (λ files left. left)
+returns-then-begin-clause-call c = call-goes {leaves = MayLeaveFiles} {within = λ s. MayLeaveFiles s.held} (returns-then-begin-clause-state c) (λ files left. left)
 
 pub returns-in_err-get-clause-state : goal.returns-in_err-get-clause-state
 returns-in_err-get-clause-state c = search rules
 
 pub returns-in_err-get-clause-call : goal.returns-in_err-get-clause-call
-returns-in_err-get-clause-call c = call-shelf {leaves = λ s. MayLeaveFiles s.files} (returns-in_err-get-clause-state c) (λ files left. left)
+returns-in_err-get-clause-call c = call-goes {leaves = MayLeaveFiles} {within = λ s. MayLeaveFiles s.held} (returns-in_err-get-clause-state c) (λ files left. left)
 
 pub returns-clause-state : goal.returns-clause-state
 returns-clause-state c = search rules
 
 pub returns-clause-call : goal.returns-clause-call
-returns-clause-call c = call-shelf {leaves = λ s. MayLeaveFiles s.files} (returns-clause-state c) (λ files left. left)
+returns-clause-call c = call-goes {leaves = MayLeaveFiles} {within = λ s. MayLeaveFiles s.held} (returns-clause-state c) (λ files left. left)
