@@ -1,4 +1,4 @@
 pub mod Selectors
 pub mod Views
 pub mod Spots
-pub mod Kept
+pub mod KeptSegments

@@ -1,5 +1,5 @@
 ghost use Rattle.std.specs.Prelude.{◌≡◌, ◌++◌, [], ◌∷◌, OnOk, OnErr, IfOk};
-ghost use Rattle.remix_view.specs.Kept.{segments_kept};
+ghost use Rattle.remix_view.specs.KeptSegments.{segments_kept};
 
 use crate::segment::Segment;
 use std::alloc::{AllocError as NoMemory, Global};

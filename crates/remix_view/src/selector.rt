@@ -1,4 +1,4 @@
-//! What a selector's bits mean. The low six name the run, the next two are marks.
+//! What the bits of a selector mean: the low six name the run, and the two above them are marks.
 ghost use Rattle.std.specs.Prelude.{◌≡◌, ◌==◌, ◌<◌, ◌≤◌, length, take, map};
 ghost use Rattle.std.specs.Simd.Lanes.{mask_l};
 ghost use Rattle.remix_view.specs.Selectors.{run_in, del_in, old_in, is_filler, rank_in};
@@ -6,7 +6,7 @@ ghost use Rattle.remix_view.specs.Selectors.{run_in, del_in, old_in, is_filler, 
 use crate::limits::SEGMENT_PLACES;
 use std::simd::prelude::*;
 
-/// A place that no version takes. Fillers stand only at the end of a segment.
+/// The selector of a filler, a place that holds no version. An index has fillers only at the end of a segment.
 pub const FILLER: u8 = 0x3F;
 
 /// The mark of a deletion. The bits below it name the run.

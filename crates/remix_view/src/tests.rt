@@ -1,9 +1,11 @@
 //! A view of eight runs whose order is written out by hand: thirty keys of run 0, then one key that all runs have.
 ghost use Rattle.std.specs.Prelude.{◌≡◌, IfOk};
 
+use crate::segments::Segments;
 use crate::{FILLER, Spot, View, Walk};
 use std::alloc::Global;
 use std::process::Abort;
+use std::sync::Arc;
 use std::test::Fail;
 
 const ONE_RUN: [u8; 32] = [
@@ -93,8 +95,29 @@ fn a_walk_begins_past_the_end(rt: HostRuntime) -> Result<(), Fail> {
 fn a_sealed_view_grows_apart_from_what_shares_it(rt: HostRuntime) -> Result<(), Fail> {
     let alloc = rt.alloc();
     let mut view = View::new(alloc, 1).seal(alloc)?;
+    assert_eq!(rt; view.runs(), 1);
     let shared = view.share(alloc)?;
     view.push(alloc, &[0], &ONE_RUN)?;
     assert_eq!(rt; (view.segments(), shared.segments()), (1, 0));
+    Ok(())
+}
+
+/// How many views share the segments of a sealed one.
+fn owners(view: &View) -> Option<usize> {
+    match &view.segments {
+        Segments::Owned(_segments) => None,
+        Segments::Shared(segments) => Some(Arc::strong_count(segments)),
+    }
+}
+
+#[test]
+fn a_sealed_view_is_shared_and_not_copied(rt: HostRuntime) -> Result<(), Fail> {
+    let alloc = rt.alloc();
+    let view = two_segments(alloc)?;
+    assert_eq!(rt; owners(&view), None);
+    let sealed = view.seal(alloc)?;
+    assert_eq!(rt; owners(&sealed), Some(1));
+    let shared = sealed.share(alloc)?;
+    assert_eq!(rt; (owners(&sealed), owners(&shared)), (Some(2), Some(2)));
     Ok(())
 }

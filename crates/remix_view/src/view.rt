@@ -3,7 +3,7 @@ ghost use Rattle.std.specs.Prelude.{IfOk, OnOk, OnErr};
 ghost use Rattle.std.specs.List.{AllByRecursion};
 ghost use Rattle.remix_view.specs.Selectors.{IsSelector, rank_in};
 ghost use Rattle.remix_view.specs.Views.{ViewState, IsFormed, SelectorAt, OffsetAt, RankAt, segment_with};
-ghost use Rattle.remix_view.specs.Kept.{segments_kept};
+ghost use Rattle.remix_view.specs.KeptSegments.{segments_kept};
 
 use crate::limits::SEGMENT_PLACES;
 use crate::segment::Segment;
@@ -16,12 +16,12 @@ use std::marker::Model;
 #[derive(Drop)]
 pub struct View {
     runs: u8,
-    segments: Segments,
+    pub(crate) segments: Segments,
 }
 
 impl Model for View {
     ghost use Rattle.remix_view.specs.Views.{ViewState, IsFormed};
-    ghost use Rattle.remix_view.specs.Kept.{segments_kept};
+    ghost use Rattle.remix_view.specs.KeptSegments.{segments_kept};
 
     ghost Value = { ViewState };
 
@@ -40,6 +40,14 @@ impl View {
             runs,
             segments: Segments::Owned(Vec::new(alloc)),
         }
+    }
+
+    /// How many runs it orders.
+    pub fn runs(&self) -> u8
+        ensures count { result ≡ self.now.runs }
+        ensures formed { IsFormed self.now }
+    {
+        self.runs
     }
 
     /// How many segments it has.
