@@ -1,12 +1,13 @@
--- Where the versions of a sorted view stand in their runs. To know: place_there.
-use Rattle.std.proofs.Common.{◌≡◌, ℕ, zero, suc, ◌+◌, Bool, true, false, cond, List, [], ◌∷◌, take, refl, sym, ap, subst, ◌∙◌, arith}
+-- Where the versions of a sorted view stand in their runs. To know: place_there, is_pair.
+use Rattle.std.proofs.Common.{◌≡◌, ℕ, zero, suc, ◌+◌, ◌<◌, length, Bool, true, false, cond, List, [], ◌∷◌, take, refl, sym, ap, subst, ◌∙◌, arith}
 use Rattle.std.specs.Prelude.{◌==◌, slice_get, Some}
 use Rattle.std.specs.List.{count_by}
 use Rattle.std.proofs.lemmas.List.Sums.{sum_by-cons}
 use Rattle.rdb_base.specs.declared.pair.Pair.{Pair}
-use Rattle.remix_seek.specs.Versions.{Version, IsSortedView, versions_in, run_at}
+use Rattle.remix_seek.specs.Versions.{Version, IsSortedView, IsPairOf, versions_in, run_at}
 use Rattle.remix_seek.proofs.UniqueLemmas.{of_run, of_run-own, of_run-other, first_same, rest_same, no_first, alike}
-use Rattle.remix_view.proofs.Lists.{some_same}
+use Rattle.remix_seek.proofs.VersionLemmas.{all_runs}
+use Rattle.remix_view.proofs.Lists.{some_same, all-at}
 
 -- how many of the first i versions are of this run
 abbrev pub before_of : ℕ → ℕ → List Version → ℕ
@@ -59,3 +60,17 @@ stands (u ∷ us) (suc i) run start pairs v all at is = by_run (λ next others s
 -- a version of a sorted view has the place of as many versions of its run as come before it, and its pair stands there
 pub place_there : (runs : List (List Pair)) (vs : List Version) (i : ℕ) (v : Version) → IsSortedView runs vs → slice_get vs i ≡ Some v → StandsAt 0 (run_at runs v.run) v (before_of v.run i vs)
 place_there runs vs i v view at = stands vs i v.run 0 (run_at runs v.run) v (view.all v.run) at refl
+
+-- so it is the run's pair at its place
+pub is_pair : (runs : List (List Pair)) (vs : List Version) (i : ℕ) (v : Version) → IsSortedView runs vs → slice_get vs i ≡ Some v → IsPairOf runs vs i v
+is_pair runs vs i v view at =
+    let stands = place_there runs vs i v view at in
+    let place : v.place ≡ before_of v.run i vs = stands.place ∙ no_more (before_of v.run i vs) in
+    record {
+      run = all-at (λ (u : Version). u.run < length runs) vs i v (all_runs runs vs view) at;
+      place = place;
+      pair = ap (slice_get (run_at runs v.run)) place ∙ stands.pair;
+    }
+  where
+    no_more : (n : ℕ) → 0 + n ≡ n
+    no_more n = omega arith

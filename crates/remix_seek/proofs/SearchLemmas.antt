@@ -6,7 +6,7 @@ use Rattle.std.proofs.lemmas.Bool.Decides.{nat_tests}
 use Rattle.rdb_base.specs.Order.{key_cmp}
 use Rattle.rdb_base.specs.declared.pair.Pair.{Pair}
 use Rattle.remix_view.specs.declared.segment.Segment.{Segment}
-use Rattle.rdb_base.specs.Halvings.{IsFalling, Halved}
+use Rattle.rdb_base.specs.Halvings.{IsFalling, IsTurn}
 use Rattle.remix_seek.specs.Searches.{anchor_below, key_below, below_at, place_in_run, below_in_segment, place_below, IsThere, ArePairsThere, IsReadable, filler_of, is_filler_at}
 use Rattle.remix_seek.specs.Searches.{pair_below}
 use Rattle.remix_view.specs.Views.{ViewState, IsFormed}
@@ -152,16 +152,16 @@ first_at_start runs view anchors s key formed idx above le last =
     no_more : (n : ℕ) → n + 0 ≡ n
     no_more n = omega arith
 
-pub found_none : (runs : List (List Pair)) (view : ViewState) (anchors : List (List ℕ)) (n : ℕ) (key : List ℕ) → IsFormed view → Indexes runs view anchors → n ≡ 0 → Halved (anchor_below anchors key) (length anchors) n n → IsFirstPlace runs view key 0 0
-found_none runs view anchors n key formed idx e halved = first_at_start runs view anchors 0 key formed idx (λ lt. halved.after 0 (omega arith) lt) (omega arith) (λ i e. absurd (omega arith))
+pub found_none : (runs : List (List Pair)) (view : ViewState) (anchors : List (List ℕ)) (n : ℕ) (key : List ℕ) → IsFormed view → Indexes runs view anchors → n ≡ 0 → IsTurn (anchor_below anchors key) (length anchors) n → IsFirstPlace runs view key 0 0
+found_none runs view anchors n key formed idx e turn = first_at_start runs view anchors 0 key formed idx (λ lt. turn.after 0 (omega arith) lt) (omega arith) (λ i e. absurd (omega arith))
 
-pub found_place : (runs : List (List Pair)) (view : ViewState) (anchors : List (List ℕ)) (s j : ℕ) (key : List ℕ) → IsFormed view → Indexes runs view anchors → s < length view.segments → 0 < j → j < 32 → (is_filler_at view s j ≡ false) → Halved (place_below runs view s key) 32 j j → IsFirstPlace runs view key s j
-found_place runs view anchors s j key formed idx inside some low named halved =
+pub found_place : (runs : List (List Pair)) (view : ViewState) (anchors : List (List ℕ)) (s j : ℕ) (key : List ℕ) → IsFormed view → Indexes runs view anchors → s < length view.segments → 0 < j → j < 32 → (is_filler_at view s j ≡ false) → IsTurn (place_below runs view s key) 32 j → IsFirstPlace runs view key s j
+found_place runs view anchors s j key formed idx inside some low named turn =
     let g = segment_at view.segments s inside in
     let known = segment_known runs view anchors s g.0 formed idx g.1 in
     let lt : j < filled g.0 = filled_at g.0 known j low (sym (ap (λ (o : Option Segment). filler_of o j) g.1) ∙ named) in
     let start = start_of view.segments s in
-    let none : below_there key idx.versions (start_of view.segments s + j) ≡ true → ⊥ = λ is. clash (place_below runs view s key j) (halved.after j (omega arith) low) (place_filled runs view anchors idx.versions s j g.0 key g.1 known lt ∙ is) in
+    let none : below_there key idx.versions (start_of view.segments s + j) ≡ true → ⊥ = λ is. clash (place_below runs view s key j) (turn.after j (omega arith) low) (place_filled runs view anchors idx.versions s j g.0 key g.1 known lt ∙ is) in
     let last : (i : ℕ) → i + 1 ≡ start_of view.segments s + j → below_there key idx.versions i ≡ true = λ i e. last_of g.0 g.1 known lt i j e (omega arith) in
     let splits = splits_from key idx.versions (start_of view.segments s + j) idx.view_of.sorted (omega (arith, slice_get_within idx.versions (start_of view.segments s + j) (known.version j lt).version (known.version j lt).at)) last none in
     record { stands = inr (g.0, g.1, lt); first = sym (all_below_split runs idx.versions key (start_of view.segments s + j) idx.view_of splits) }
@@ -184,18 +184,18 @@ found_place runs view anchors s j key formed idx inside some low named halved =
     last_of g at known lt i (suc m) e f =
         ap (below_there key idx.versions) (one_less i (start_of view.segments s) m e)
         ∙ sym (place_filled runs view anchors idx.versions s m g key at known (omega arith))
-        ∙ halved.before m (omega arith)
+        ∙ turn.before m (omega arith)
       where
         one_less : (a b c : ℕ) → a + 1 ≡ b + suc c → a ≡ b + c
         one_less a b c h = omega arith
 
-pub found_after : (runs : List (List Pair)) (view : ViewState) (anchors : List (List ℕ)) (s n j : ℕ) (key : List ℕ) → IsFormed view → Indexes runs view anchors → n ≡ suc s → Halved (anchor_below anchors key) (length anchors) n n → 0 < j → (j < 32 → is_filler_at view s j ≡ true) → Halved (place_below runs view s key) 32 j j → IsFirstPlace runs view key n 0
-found_after runs view anchors s n j key formed idx after halves some ends halved =
+pub found_after : (runs : List (List Pair)) (view : ViewState) (anchors : List (List ℕ)) (s n j : ℕ) (key : List ℕ) → IsFormed view → Indexes runs view anchors → n ≡ suc s → IsTurn (anchor_below anchors key) (length anchors) n → 0 < j → (j < 32 → is_filler_at view s j ≡ true) → IsTurn (place_below runs view s key) 32 j → IsFirstPlace runs view key n 0
+found_after runs view anchors s n j key formed idx after turned some ends turn =
     let long : length anchors ≡ length view.segments = length-anchors runs idx.versions 0 view.segments anchors idx.anchored in
-    let inside : s < length view.segments = omega (arith, halves.inside) in
+    let inside : s < length view.segments = omega (arith, turned.inside) in
     let g = segment_at view.segments s inside in
     let known = segment_known runs view anchors s g.0 formed idx g.1 in
-    first_at_start runs view anchors n key formed idx (λ lt. halves.after n (omega arith) lt) (omega (arith, halves.inside))
+    first_at_start runs view anchors n key formed idx (λ lt. turned.after n (omega arith) lt) (omega (arith, turned.inside))
     (λ i e. last_of g.0 g.1 known (full g.0 g.1 known) i (filled g.0) (e ∙ ap (start_of view.segments) after ∙ start_next view.segments s g.0 g.1) refl)
   where
     -- the places that are filled are all below
@@ -216,7 +216,7 @@ found_after runs view anchors s n j key formed idx after halves some ends halved
     last_of g at known le i (suc m) e f =
         ap (below_there key idx.versions) (one_less i (start_of view.segments s) m e)
         ∙ sym (place_filled runs view anchors idx.versions s m g key at known (omega arith))
-        ∙ halved.before m (omega arith)
+        ∙ turn.before m (omega arith)
       where
         one_less : (a b c : ℕ) → a + 1 ≡ b + suc c → a ≡ b + c
         one_less a b c h = omega arith

@@ -1,11 +1,11 @@
--- Versions of a sorted view below a key. To know: sorted_falls, SplitsAt, count_split, all_below_split.
+-- Versions of a sorted view below a key. To know: sorted_falls, SplitsAt, count_split, all_below_split, length-versions.
 use Rattle.std.proofs.Common.{◌≡◌, ℕ, zero, suc, ◌+◌, ◌<◌, ◌≤◌, Bool, true, false, cond, List, [], ◌∷◌, length, take, refl, sym, ap, subst, ◌∙◌, arith}
 use Rattle.std.specs.Prelude.{◌==◌, slice_get, Option, Some, None, filter, nat_le}
 use Rattle.std.specs.List.{AllByRecursion, count_by, sum_by}
 use Rattle.std.specs.Ordering.{is_lt}
 use Rattle.std.specs.declared.cmp.Ordering.{Ordering}
 use Rattle.std.specs.declared.cmp.Ordering.TheVariants.{Less, Equal, Greater}
-use Rattle.std.proofs.lemmas.List.Sums.{sum_by-cons}
+use Rattle.std.proofs.lemmas.List.Sums.{sum_by-cons, length-filter}
 use Rattle.std.proofs.lemmas.Bool.Decides.{nat_tests}
 use Rattle.rdb_base.specs.Order.{key_cmp}
 use Rattle.rdb_base.proofs.KeyOrder.{total, same_key}
@@ -173,3 +173,18 @@ all_below_split runs vs key n view s =
     (all-take (λ (v : Version). v.run < length runs) n vs (all_runs runs vs view))
     ∙ all_from 0 (take n vs) refl
     ∙ length-front n vs s.inside
+
+length_in : (run start : ℕ) (pairs : List Pair) → length (versions_in run start pairs) ≡ length pairs
+length_in run start [] = refl
+length_in run start (x ∷ xs) = let e = length_in run (start + 1) xs in omega arith
+
+-- there are as many versions as pairs
+pub length-versions : (runs : List (List Pair)) (vs : List Version) → IsSortedView runs vs → sum_by (λ (run : List Pair). length run) runs ≡ length vs
+length-versions runs vs view =
+    sum_runs (λ (run : List Pair). length run) runs 0 (length runs) vs (omega arith)
+    (λ r lt. of_run r ∙ ap (λ (m : ℕ). count_by (λ (v : Version). v.run == m) vs) (omega arith))
+    (all_runs runs vs view)
+    ∙ all_from 0 vs refl
+  where
+    of_run : (r : ℕ) → length (run_at runs r) ≡ count_by (λ (v : Version). v.run == r) vs
+    of_run r = sym (length_in r 0 (run_at runs r)) ∙ ap length (sym (view.all r)) ∙ length-filter (λ (v : Version). v.run == r) vs

@@ -1,5 +1,5 @@
 -- What holds of every index: it is the only one of its runs, a walk of it gives the versions in order, and these are the level of the runs.
-use Rattle.std.specs.Prelude.{◌≡◌, ℕ, List, None, filter, drop, slice_get, not}
+use Rattle.std.specs.Prelude.{◌≡◌, ℕ, List, Some, None, filter, drop, slice_get, not}
 use Rattle.std.specs.Ordering.{is_lt}
 use Rattle.rdb_base.specs.Order.{key_cmp}
 use Rattle.rdb_base.specs.Runs.{change_at}
@@ -7,7 +7,7 @@ use Rattle.rdb_base.specs.Levels.{level_of}
 use Rattle.rdb_base.specs.declared.pair.Pair.{Pair}
 use Rattle.remix_view.specs.Views.{ViewState, IsFormed}
 use Rattle.remix_view.specs.Spots.{spots_from}
-use Rattle.remix_seek.specs.Versions.{Version, IsSortedView, newest_of, key_before, change_there, spots_after}
+use Rattle.remix_seek.specs.Versions.{Version, IsSortedView, IsPairOf, newest_of, key_before, change_there, spots_after}
 use Rattle.remix_seek.specs.Indexes.{Indexes}
 use Rattle.remix_seek.specs.Places.{IsFirstPlace, IsStanding, versions_before}
 
@@ -30,6 +30,12 @@ abbrev pub ListedFrom : Type 0
 ListedFrom = (runs : List (List Pair)) (view : ViewState) (anchors : List (List ℕ)) (index : Indexes runs view anchors) (key : List ℕ) (segment place : ℕ)
     → IsFirstPlace runs view key segment place
     → newest_of (key_before None index.versions (versions_before view segment place)) (drop (versions_before view segment place) index.versions) ≡ filter (λ pair. not (is_lt (key_cmp pair.key key))) (level_of runs)
+
+-- a version of an index stands in a run that is there, after as many versions of the run as come before it, and is the run's pair there
+abbrev pub VersionIsPair : Type 0
+VersionIsPair = (runs : List (List Pair)) (view : ViewState) (anchors : List (List ℕ)) (index : Indexes runs view anchors) (n : ℕ) (v : Version)
+    → slice_get index.versions n ≡ Some v
+    → IsPairOf runs index.versions n v
 
 -- a walk from a place that holds a version, or from the end place, gives the spots of the versions from there on
 abbrev pub WalkInOrder : Type 0

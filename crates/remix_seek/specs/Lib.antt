@@ -3,5 +3,5 @@ pub mod Versions
 pub mod Indexes
 pub mod Places
 pub mod Searches
-pub mod Kept
+pub mod KeptAnchors
 pub mod Laws

@@ -28,6 +28,6 @@ abbrev pub FoundFirst : {E : Type 0} → List (List Pair) → ViewState → List
 FoundFirst runs view key (Ok (segment, place)) = IsFirstPlace runs view key segment place
 FoundFirst runs view key (Err error) = ⊥
 
--- a search's steps: for each n whose power of two covers the segments at most n + 7
+-- a search's steps: for each n whose power of two covers the segments at most n + 6
 abbrev pub SeekCost : ViewState → ℕ → ℕ → Type 0
-SeekCost view before now = (n : ℕ) → max (length view.segments) 1 ≤ 2 ^ n → now ≤ before + n + 7
+SeekCost view before now = (n : ℕ) → max (length view.segments) 1 ≤ 2 ^ n → now ≤ before + n + 6

@@ -1,6 +1,6 @@
 -- The sorted view of runs: all their pairs in one list, by key and then by run, the newest first.
-use Rattle.std.specs.Prelude.{◌≡◌, ℕ, zero, suc, ◌+◌, nat_lt, filter, Bool, false, true, ◌==◌, List, [], ◌∷◌, Option, Some, None, if◌then◌else◌}
-use Rattle.std.specs.List.{AllByRecursion}
+use Rattle.std.specs.Prelude.{◌≡◌, ℕ, zero, suc, ◌+◌, ◌<◌, nat_lt, length, take, slice_get, filter, Bool, false, true, ◌==◌, List, [], ◌∷◌, Option, Some, None, if◌then◌else◌}
+use Rattle.std.specs.List.{AllByRecursion, count_by}
 use Rattle.std.specs.Ordering.{is_eq}
 use Rattle.std.specs.declared.cmp.Ordering.{Ordering}
 use Rattle.std.specs.declared.cmp.Ordering.TheVariants.{Less, Equal, Greater}
@@ -45,6 +45,12 @@ AreSorted (v ∷ vs) = AllByRecursion (λ w. is_before v w ≡ true) vs × AreSo
 pub record IsSortedView (runs : List (List Pair)) (versions : List Version) : Type 0 where
   pub sorted : AreSorted versions
   pub all : (run : ℕ) → filter (λ v. v.run == run) versions ≡ versions_in run 0 (run_at runs run)
+
+-- a version at a place of a list is the pair of its run, at the place of as many versions of the run as come before it
+pub record IsPairOf (runs : List (List Pair)) (versions : List Version) (n : ℕ) (v : Version) : Type 0 where
+  pub run : v.run < length runs
+  pub place : v.place ≡ count_by (λ other. other.run == v.run) (take n versions)
+  pub pair : slice_get (run_at runs v.run) v.place ≡ Some v.pair
 
 abbrev pub is_deletion : Change → Bool
 is_deletion (Put value) = false

@@ -1,5 +1,5 @@
 ghost use Rattle.std.specs.Prelude.{◌≡◌, ◌++◌, [], ◌∷◌, OnOk, OnErr, IfOk};
-ghost use Rattle.remix_seek.specs.Kept.{keys_kept};
+ghost use Rattle.remix_seek.specs.KeptAnchors.{keys_kept};
 
 use rdb_base::{Key, NoMemory};
 use std::alloc::Global;

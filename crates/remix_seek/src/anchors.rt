@@ -9,12 +9,12 @@ use std::marker::Model;
 /// The first key of each segment, in order. Contracts see it as the list of these keys.
 #[derive(Drop)]
 pub struct Anchors {
-    keys: AnchorKeys,
+    pub(crate) keys: AnchorKeys,
 }
 
 impl Model for Anchors {
     ghost use Rattle.std.specs.Prelude.{ℕ, List};
-    ghost use Rattle.remix_seek.specs.Kept.{keys_kept};
+    ghost use Rattle.remix_seek.specs.KeptAnchors.{keys_kept};
 
     ghost Value = { List (List ℕ) };
 
@@ -39,6 +39,13 @@ impl Anchors {
         ensures same { OnErr result (self.new ≡ self.old) }
     {
         self.keys.push(alloc, anchor)
+    }
+
+    /// How many anchors there are.
+    pub fn count(&self) -> usize
+        ensures { result ≡ length self.now }
+    {
+        self.keys.as_slice().len()
     }
 
     /// The anchor of a segment.

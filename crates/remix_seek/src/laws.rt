@@ -1,5 +1,5 @@
 //! What holds of every index, as calls that carry it in their contracts. They do nothing.
-ghost use Rattle.remix_seek.specs.Laws.{OneIndex, NewestIsLevel, SeekInLevel, ListedFrom, WalkInOrder};
+ghost use Rattle.remix_seek.specs.Laws.{OneIndex, NewestIsLevel, SeekInLevel, ListedFrom, VersionIsPair, WalkInOrder};
 
 /// Over the same runs there is only one index.
 pub fn one_index()
@@ -19,6 +19,11 @@ pub fn seek_in_level()
 /// The newest versions from the first place of a key on are the level from the key on.
 pub fn listed_from()
     ensures { ListedFrom }
+{}
+
+/// A version of an index is the pair of its run at its place.
+pub fn version_is_pair()
+    ensures { VersionIsPair }
 {}
 
 /// A walk of an index gives its versions in order.

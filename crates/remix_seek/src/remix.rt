@@ -1,4 +1,4 @@
-ghost use Rattle.std.specs.Prelude.{◌≡◌, IfOk, map};
+ghost use Rattle.std.specs.Prelude.{◌≡◌, ◌<◌, IfOk, length, map};
 ghost use Rattle.remix_seek.specs.Indexes.{Indexes};
 ghost use Rattle.remix_seek.specs.Places.{SeekCost, FoundFirst};
 
@@ -33,6 +33,7 @@ impl Remix {
         requires { Indexes (map T.run runs.now) self.now.view self.now.anchors }
         ensures place { FoundFirst (map T.run runs.now) self.now.view key.now result }
         ensures cost { SeekCost self.now.view steps.old steps.new }
+        ensures some { 0 < length self.now.view.segments → steps.old < steps.new }
     {
         let segments = self.view.segments();
         let below = anchors_below(&self.anchors, segments, key, steps);

@@ -1,6 +1,6 @@
 //! The two searches by halves of a seek: over the anchors, and over the places of one segment.
 ghost use Rattle.std.specs.Prelude.{◌≡◌, ◌≢◌, ◌+◌, ◌-◌, ◌<◌, ◌≤◌, ◌^◌, true, ℕ, length, map};
-ghost use Rattle.rdb_base.specs.Halvings.{Halved, IsFalling, IsLogarithmic};
+ghost use Rattle.rdb_base.specs.Halvings.{IsTurn, IsFalling, IsLogarithmic};
 ghost use Rattle.remix_seek.specs.Searches.{AnchorAt, anchor_below, place_below, IsReadable, holds_at};
 
 use crate::anchors::Anchors;
@@ -19,8 +19,9 @@ pub(crate) fn anchors_below<L: Ledger>(
 ) -> u32
     requires all { count ≡ length anchors.now }
     requires falls { IsFalling (anchor_below anchors.now key.now) (length anchors.now) }
-    ensures place { Halved (anchor_below anchors.now key.now) (length anchors.now) result result }
+    ensures place { IsTurn (anchor_below anchors.now key.now) (length anchors.now) result }
     ensures cost { IsLogarithmic (length anchors.now) steps.old steps.new }
+    ensures some { 0 < length anchors.now → steps.old < steps.new }
 {
     let mut low: u32 = 0;
     let mut high = count;
@@ -48,9 +49,10 @@ pub(crate) fn first_in_segment<T: Runs, L: Ledger>(
     requires readable { IsReadable (map T.run runs.now) view.now segment }
     requires falls { IsFalling (place_below (map T.run runs.now) view.now segment key.now) 32 }
     requires first { place_below (map T.run runs.now) view.now segment key.now 0 ≡ true }
-    ensures place { Halved (place_below (map T.run runs.now) view.now segment key.now) 32 result result }
+    ensures place { IsTurn (place_below (map T.run runs.now) view.now segment key.now) 32 result }
     ensures some { 0 < result }
     ensures cost { steps.new ≤ steps.old + 5 }
+    ensures later { steps.old ≤ steps.new }
 {
     let mut low: u8 = 1;
     let mut high: u8 = 32;
@@ -79,6 +81,7 @@ fn is_below<T: Runs, L: Ledger>(
     requires readable { IsReadable (map T.run runs.now) view.now segment }
     ensures below { result ≡ place_below (map T.run runs.now) view.now segment key.now place }
     ensures cost { steps.new ≤ steps.old + 1 }
+    ensures later { steps.old ≤ steps.new }
 {
     let selector = view.selector(segment, place);
     if selector == FILLER {

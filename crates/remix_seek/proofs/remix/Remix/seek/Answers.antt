@@ -46,3 +46,12 @@ returns-else-has_version-clause-place g c =
 
 pub returns-else-has_version-clause-cost : goal.returns-else-has_version-clause-cost
 returns-else-has_version-clause-cost g c = cost_of c.args.self.now.view (length c.args.self.now.anchors) c.args.steps.now c.anchors_below-below.new.steps c.first_in_segment-place.new.steps (length-anchors (map g.T.Runs.run c.args.runs.now) c.requires.versions 0 c.args.self.now.view.segments c.args.self.now.anchors c.requires.anchored) c.anchors_below-below.ensures.cost c.first_in_segment-place.ensures.cost
+
+pub returns-then-below-eq0-clause-some : goal.returns-then-below-eq0-clause-some
+returns-then-below-eq0-clause-some g c more = c.anchors_below-below.ensures.some (omega (arith, (length-anchors (map g.T.Runs.run c.args.runs.now) c.requires.versions 0 c.args.self.now.view.segments c.args.self.now.anchors c.requires.anchored), more))
+
+pub returns-then-has_version-clause-some : goal.returns-then-has_version-clause-some
+returns-then-has_version-clause-some g c more = omega (arith, c.anchors_below-below.ensures.some (omega (arith, (length-anchors (map g.T.Runs.run c.args.runs.now) c.requires.versions 0 c.args.self.now.view.segments c.args.self.now.anchors c.requires.anchored), more)), c.first_in_segment-place.ensures.later)
+
+pub returns-else-has_version-clause-some : goal.returns-else-has_version-clause-some
+returns-else-has_version-clause-some g c more = omega (arith, c.anchors_below-below.ensures.some (omega (arith, (length-anchors (map g.T.Runs.run c.args.runs.now) c.requires.versions 0 c.args.self.now.view.segments c.args.self.now.anchors c.requires.anchored), more)), c.first_in_segment-place.ensures.later)
