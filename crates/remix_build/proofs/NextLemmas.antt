@@ -1,11 +1,10 @@
 -- The next segment of an index that is being packed: what its calls ask, and what it leaves. To know: next_read, next_named, next_room, next_some, segment_added.
-use Rattle.std.proofs.Common.{◌≡◌, ◌≢◌, ℕ, zero, suc, ◌+◌, ◌-◌, ◌<◌, ◌≤◌, ◌^◌, Bool, true, false, List, [], ◌∷◌, ◌++◌, length, take, drop, refl, sym, ap, subst, ◌∙◌, arith}
+use Rattle.std.proofs.Common.{◌≡◌, ℕ, zero, suc, ◌+◌, ◌-◌, ◌<◌, ◌≤◌, ◌^◌, List, [], ◌∷◌, ◌++◌, length, take, drop, refl, sym, ap, subst, ◌∙◌, arith}
 use Rattle.std.specs.Prelude.{◌==◌, slice_get, slice_index, Some, None, replicate}
-use Rattle.std.specs.List.{AllByRecursion, count_by}
+use Rattle.std.specs.List.{AllByRecursion}
 use Rattle.std.proofs.lemmas.List.{take-append-drop}
 use Rattle.std.proofs.lemmas.Option.{slice_get-get_or, slice_get_within}
 use Rattle.rdb_base.specs.declared.pair.Pair.{Pair}
-use Rattle.rdb_base.specs.Runs.{IsRun}
 use Rattle.rdb_base.proofs.Lists.{all-weaker, all-append, all-front, all-back}
 use Rattle.remix_view.specs.declared.segment.Segment.{Segment}
 use Rattle.remix_view.specs.declared.selector.TheConstants.{FILLER}
@@ -21,6 +20,7 @@ use Rattle.remix_seek.proofs.SegmentLemmas.{selector_there, run_of_selector, len
 use Rattle.remix_seek.proofs.PlaceLemmas.{place_there, before_of}
 use Rattle.remix_build.specs.Merging.{IsOrder}
 use Rattle.remix_build.specs.Packing.{Packed, GroupCut, IsSegmentOf, CountedOn, eight_counts, AreRuns}
+use Rattle.remix_build.proofs.CostLemmas.{short_run}
 use Rattle.remix_build.proofs.GroupLemmas.{some_cut, drop_selectors}
 use Rattle.remix_build.proofs.BuildLemmas.{drop_all_of, drop_sorted, packed_step, anchor_read, room_told, selectors_named, fillers_named, rank_fillers}
 
@@ -63,11 +63,6 @@ pub next_named : (runs : List (List Pair)) (order front selectors : List ℕ) (a
 next_named runs order front selectors at n k few is e f =
     subst (AllByRecursion (IsSelector (length runs))) (sym f)
     (all-append (IsSelector (length runs)) front (replicate k FILLER) (subst (AllByRecursion (IsSelector (length runs))) (sym e) (part_named (length runs) at n order (all_named runs order few is))) (fillers_named (length runs) k))
-
-short_run : (runs : List (List Pair)) (run : ℕ) → AreRuns runs → run < length runs → length (run_at runs run) < 2 ^ 32
-short_run [] run all lt = absurd (omega arith)
-short_run (r ∷ rs) zero all lt = all.0.1
-short_run (r ∷ rs) (suc run) all lt = short_run rs run all.1 (omega arith)
 
 pub next_room : (runs : List (List Pair)) (order front : List ℕ) (segments : List Segment) (anchors : List (List ℕ)) (counts : List ℕ) (at n run : ℕ) → length runs ≤ 8 → AreRuns runs → Packed runs order segments anchors counts at → front ≡ take n (drop at order) → run < length runs → slice_index counts run + rank_in run front < 2 ^ 32
 next_room runs order front segments anchors counts at n run few all m e low =

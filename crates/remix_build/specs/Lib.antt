@@ -1,3 +1,4 @@
 pub mod Heads
 pub mod Merging
 pub mod Packing
+pub mod Costs

@@ -1,6 +1,7 @@
 //! The heads of all runs, lent, and the one that comes first: the least key, and of equal keys the newest run.
-ghost use Rattle.std.specs.Prelude.{◌≡◌, ◌+◌, ◌<◌, ◌≤◌, length, map, slice_get, IfOk};
+ghost use Rattle.std.specs.Prelude.{◌≡◌, ◌+◌, ◌<◌, ◌≤◌, length, map, slice_get, IfOk, if◌then◌else◌};
 ghost use Rattle.remix_build.specs.Heads.{LeastHead, AreFirst, lent_key, head_of_run, key_of};
+ghost use Rattle.remix_build.specs.Costs.{has_head, heads_there};
 
 use rdb_base::{NoMemory, Steps, compare_bytes};
 use remix_seek::Runs;
@@ -13,7 +14,8 @@ pub(crate) fn first_heads<'a, T: Runs, L: Ledger>(
     runs: &'a [T],
     steps: &mut Steps<L>,
 ) -> Result<Vec<Option<&'a [u8]>>, NoMemory>
-    ensures { IfOk result (λ heads. AreFirst (map T.run runs.now) heads.items) }
+    ensures heads { IfOk result (λ heads. AreFirst (map T.run runs.now) heads.items) }
+    ensures cost { IfOk result (λ heads. steps.new ≡ steps.old + heads_there heads.items) }
 {
     let mut heads = Vec::with_capacity(alloc, runs.len())?;
     'runs: for run in runs {
@@ -28,7 +30,8 @@ pub(crate) fn head_at<'a, T: Runs, L: Ledger>(
     place: u32,
     steps: &mut Steps<L>,
 ) -> Option<&'a [u8]>
-    ensures { lent_key result ≡ key_of (slice_get (T.run run.now) place) }
+    ensures head { lent_key result ≡ key_of (slice_get (T.run run.now) place) }
+    ensures cost { steps.new ≡ steps.old + (if has_head result then 1 else 0) }
 {
     if place < run.len() {
         Some(run.lent_key(place, steps))

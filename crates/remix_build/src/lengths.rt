@@ -6,7 +6,7 @@ ghost use Rattle.remix_build.specs.Packing.{AreRuns};
 use remix_seek::Runs;
 
 /// Asks each run for its length, whose contract tells that its keys rise and that it is shorter than 2^32.
-pub(crate) fn check_runs<T: Runs>(runs: &[T])
+pub(crate) fn ask_lengths<T: Runs>(runs: &[T])
     ensures { AreRuns (map T.run runs.now) }
 {
     'runs: for run in runs {

@@ -1,11 +1,10 @@
 //! The merge of runs into one order of versions, told as selectors. Each key is read once.
-ghost use Rattle.std.specs.Prelude.{◌≡◌, ◌<◌, ◌≤◌, length, map, IfOk, slice_get, replicate};
-ghost use Rattle.std.specs.List.{AllByRecursion};
-ghost use Rattle.rdb_base.specs.Runs.{IsRun};
+ghost use Rattle.std.specs.Prelude.{◌≡◌, ◌+◌, ◌<◌, ◌≤◌, length, map, IfOk, slice_get, replicate};
 ghost use Rattle.remix_seek.specs.Reads.{KeyAt};
 ghost use Rattle.remix_seek.specs.Versions.{run_at, has_key};
 ghost use Rattle.remix_build.specs.Heads.{lent_key};
 ghost use Rattle.remix_build.specs.Merging.{IsOrder, selector_after, selector_by, deletion_at};
+ghost use Rattle.remix_build.specs.Packing.{AreRuns};
 
 use crate::heads::{first_heads, head_at, least};
 use rdb_base::{NoMemory, Steps, compare_bytes};
@@ -21,8 +20,9 @@ pub(crate) fn order_of<T: Runs, L: Ledger>(
     steps: &mut Steps<L>,
 ) -> Result<Vec<u8>, NoMemory>
     requires few { length runs.now ≤ 8 }
-    requires rise { AllByRecursion IsRun (map T.run runs.now) }
-    ensures { IfOk result (λ order. IsOrder (map T.run runs.now) order.items) }
+    requires runs { AreRuns (map T.run runs.now) }
+    ensures order { IfOk result (λ order. IsOrder (map T.run runs.now) order.items) }
+    ensures cost { IfOk result (λ order. steps.new ≡ steps.old + length order.items) }
 {
     let mut places = zeros(alloc, runs.len())?;
     let mut heads = first_heads(alloc, runs, steps)?;
@@ -33,9 +33,7 @@ pub(crate) fn order_of<T: Runs, L: Ledger>(
             None => return Ok(order),
             Some((run, key)) => {
                 let place = places[run as usize];
-                let Some(after) = place.checked_add(1) else {
-                    return Err(AllocError);
-                };
+                let after = place + 1;
                 order.push(next_selector(runs, run, place, last, key))?;
                 places[run as usize] = after;
                 heads[run as usize] = head_at(&runs[run as usize], after, steps);

@@ -59,6 +59,9 @@ pub(crate) fn add_segment<T: Runs, L: Ledger>(
         packing.new.index.anchors packing.new.counts.items packing.new.at) }
     ensures view { OnOk result (packing.new.index.view.runs ≡ length runs.now) }
     ensures further { OnOk result (packing.old.at < packing.new.at) }
+    ensures one { OnOk result
+        (length packing.new.index.view.segments ≡ length packing.old.index.view.segments + 1) }
+    ensures cost { OnOk result (steps.new ≡ steps.old + 1) }
 {
     let (_, rest) = order.split_at(packing.at);
     let places = cut(rest);
@@ -96,8 +99,9 @@ fn anchor_of<T: Runs, L: Ledger>(
     requires counts { length counts.now ≡ length runs.now }
     requires run { run_in selector < length runs.now }
     requires place { slice_index counts.now (run_in selector) < length (run_at (map T.run runs.now) (run_in selector)) }
-    ensures { IfOk result (λ key. KeyAt (run_at (map T.run runs.now) (run_in selector))
+    ensures key { IfOk result (λ key. KeyAt (run_at (map T.run runs.now) (run_in selector))
         (slice_index counts.now (run_in selector)) key) }
+    ensures cost { steps.new ≡ steps.old + 1 }
 {
     let run = run_in(selector) as usize;
     runs[run].key_at(alloc, counts[run], steps)

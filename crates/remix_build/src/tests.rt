@@ -5,7 +5,7 @@ mod generated;
 
 use crate::build;
 use rdb_base::{Change, Key, Pair, Steps, Value};
-use remix_seek::{Remix, RunInMemory};
+use remix_seek::{Anchors, Remix, RunInMemory};
 use remix_view::{FILLER, Spot, View, Walk};
 use std::alloc::Global;
 use std::marker::Brand;
@@ -48,25 +48,42 @@ fn eight_runs(alloc: Global) -> Result<Vec<RunInMemory>, Fail> {
     Ok(runs)
 }
 
-fn selectors_are(rt: &impl Abort, view: &View, segment: u32, front: &[u8]) {
+/// A segment has these selectors, and fillers after them.
+fn selectors_are(rt: &impl Abort, view: &View, segment: u32, front: &[u8]) -> Result<(), Fail> {
+    if segment >= view.segments() {
+        return Err("no such segment")?;
+    }
     for place in 0..32u8 {
         let want = match front.get(place as usize) {
             None => FILLER,
             Some(selector) => *selector,
         };
-        if segment < view.segments() {
-            assert_eq!(rt; view.selector(segment, place), want, "at {place}");
-        }
+        assert_eq!(rt; view.selector(segment, place), want, "at {place}");
     }
+    Ok(())
 }
 
-fn is_the_index_of_eight_runs(rt: &impl Abort, index: &Remix) -> Result<(), Fail> {
-    if index.view.segments() != 2 {
-        return Err("two segments")?;
+fn offsets_are(rt: &impl Abort, view: &View, segment: u32, want: &[u32]) -> Result<(), Fail> {
+    if segment >= view.segments() {
+        return Err("no such segment")?;
     }
-    selectors_are(rt, &index.view, 0, &[0; 30]);
-    let group = [0, 0x81, 0x82, 0x83, 0x84, 0x85, 0x86, 0x87];
-    selectors_are(rt, &index.view, 1, &group);
+    assert_eq!(rt; view.runs() as usize, want.len());
+    for run in 0..view.runs() {
+        let offset = view.offset(segment, run);
+        assert_eq!(rt; Some(&offset), want.get(run as usize), "of run {run}");
+    }
+    Ok(())
+}
+
+fn anchor_is(rt: &impl Abort, anchors: &Anchors, segment: u32, want: &[u8]) -> Result<(), Fail> {
+    if segment as usize >= anchors.count() {
+        return Err("no such anchor")?;
+    }
+    assert_eq!(rt; anchors.at(segment).as_bytes(), want);
+    Ok(())
+}
+
+fn walks_through_m(rt: &impl Abort, view: &View) {
     let mut walk = Walk::at(1, 0);
     for run in 0..8u8 {
         let place = if run == 0 { 30 } else { 0 };
@@ -77,8 +94,21 @@ fn is_the_index_of_eight_runs(rt: &impl Abort, index: &Remix) -> Result<(), Fail
             old,
             del,
         };
-        assert_eq!(rt; walk.next(&index.view), Some(want));
+        assert_eq!(rt; walk.next(view), Some(want));
     }
+    assert_eq!(rt; walk.next(view), None);
+}
+
+fn is_the_index_of_eight_runs(rt: &impl Abort, index: &Remix) -> Result<(), Fail> {
+    assert_eq!(rt; (index.view.segments(), index.anchors.count()), (2, 2));
+    anchor_is(rt, &index.anchors, 0, b"a00")?;
+    offsets_are(rt, &index.view, 0, &[0, 0, 0, 0, 0, 0, 0, 0])?;
+    selectors_are(rt, &index.view, 0, &[0; 30])?;
+    anchor_is(rt, &index.anchors, 1, b"m")?;
+    offsets_are(rt, &index.view, 1, &[30, 0, 0, 0, 0, 0, 0, 0])?;
+    let group = [0, 0x81, 0x82, 0x83, 0x84, 0x85, 0x86, 0x87];
+    selectors_are(rt, &index.view, 1, &group)?;
+    walks_through_m(rt, &index.view);
     Ok(())
 }
 

@@ -48,7 +48,7 @@ fn pair_of(alloc: Global, number: u8, del: bool) -> Result<Pair, Fail> {
     Ok(Pair { key, change })
 }
 
-/// A random run, whose versions are added to those that are known.
+/// A random run, one in seven of which is empty. Its versions are added to those that are known.
 fn random_run(
     alloc: Global,
     state: &mut u64,
@@ -57,9 +57,9 @@ fn random_run(
 ) -> Result<RunInMemory, Fail> {
     let mut pairs = Vec::new(alloc);
     let mut place: u32 = 0;
-    let rarity = 1 + drawn(state, 6);
+    let rarity = drawn(state, 7);
     for number in 0..KEYS {
-        if drawn(state, rarity) == 0 {
+        if rarity > 0 && drawn(state, rarity) == 0 {
             let del = drawn(state, 4) == 0;
             pairs.push(pair_of(alloc, number, del)?)?;
             known.push((number, run, place, del))?;

@@ -1,11 +1,11 @@
-use Rattle.std.proofs.Common.{◌≡◌, ℕ, List, length, map, arith, sym, ap, subst, ◌∙◌}
-use Rattle.std.specs.Prelude.{[], replicate, slice_index}
+use Rattle.std.proofs.Common.{ℕ, List, length, map, arith, sym, ap, subst, ◌∙◌}
+use Rattle.std.specs.Prelude.{[], slice_index}
 use Rattle.std.proofs.lemmas.List.{length-map, length-replicate}
 use Rattle.remix_view.specs.declared.segment.Segment.{Segment}
 use Rattle.remix_view.specs.Views.{ViewState}
 use Rattle.remix_build.specs.Packing.{Packed}
 use Rattle.remix_build.proofs.MergeLemmas.{zeros_at}
-use Rattle.remix_build.proofs.BuildLemmas.{packed_begun, packed_ended}
+use Rattle.remix_build.proofs.BuildLemmas.{packed_begun}
 use Rattle.remix_build.proofs.building.packed.Goals as goal
 
 pub segments-init : goal.segments-init
@@ -21,4 +21,5 @@ segments-init g c =
           (subst (λ (ks : List (List ℕ)). Packed (map g.T.Runs.run c.args.runs.now) c.args.order.now c.in_ok-packing.packing.index.view.segments ks c.in_ok-packing.packing.counts.items 0) (sym c.in_ok-packing.ensures.anchors)
           (subst (λ (gs : List Segment). Packed (map g.T.Runs.run c.args.runs.now) c.args.order.now gs [] c.in_ok-packing.packing.counts.items 0) (sym segments) begun));
       runs_told = ap (λ (v : ViewState). v.runs) c.in_ok-packing.ensures.view;
+      cost = omega (arith, ap (λ (gs : List Segment). length gs) segments);
     }

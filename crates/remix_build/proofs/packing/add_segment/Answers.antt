@@ -1,13 +1,14 @@
-use Rattle.std.proofs.Common.{◌≡◌, ◌+◌, ◌<◌, ◌^◌, ℕ, List, length, take, drop, map, refl, arith, sym, ap, subst, ◌∙◌}
+use Rattle.std.proofs.Common.{◌≡◌, ◌+◌, ◌<◌, ◌^◌, ℕ, List, length, take, drop, map, arith, sym, ap, subst, ◌∙◌}
 use Rattle.std.specs.Prelude.{slice_index, [], ◌∷◌, ◌++◌}
 use Rattle.std.specs.List.{AllByRecursion}
-use Rattle.std.proofs.lemmas.List.{length-map}
+use Rattle.std.proofs.lemmas.List.{length-map, length-append}
+use Rattle.remix_view.specs.declared.segment.Segment.{Segment}
 use Rattle.remix_view.specs.Selectors.{IsSelector, rank_in, run_in}
 use Rattle.remix_view.specs.Views.{segment_with}
 use Rattle.remix_seek.specs.Reads.{KeyAt}
 use Rattle.remix_seek.specs.Versions.{run_at}
 use Rattle.remix_build.specs.Packing.{GroupCut, CountedOn}
-use Rattle.remix_build.proofs.NextLemmas.{next_read, next_named, next_room, next_reach, next_some, front_length, segment_added}
+use Rattle.remix_build.proofs.NextLemmas.{next_read, next_named, next_room, next_reach, next_some, segment_added}
 use Rattle.remix_build.proofs.packing.add_segment.Goals as goal
 
 pub anchor_of-requires-clause-run : goal.anchor_of-requires-clause-run
@@ -54,7 +55,7 @@ returns-clause-packed g c =
     segment_added (map g.T.Runs.run c.args.runs.now) c.args.order.now c.split_at-2.result.0.now c.closed.result c.args.packing.now.index.view.segments c.push.new.self.segments c.args.packing.now.index.anchors c.push-2.new.self c.args.packing.now.counts.items c.in_ok-later.later.items c.args.packing.now.at c.cut-places.result c.in_ok-anchor.anchor
     (omega (arith, many, c.requires.few)) c.requires.packed c.requires.more (subst (λ (xs : List ℕ). GroupCut xs c.cut-places.result) rest c.cut-places.ensures) front c.closed.ensures
     (c.in_ok-push.ensures.added ∙ ap (λ (xs : List ℕ). c.args.packing.now.index.view.segments ++ segment_with xs c.closed.result ∷ []) c.as_slice-3.ensures) c.in_ok-push-2.ensures.added
-    (subst (λ (xs : List ℕ). KeyAt (run_at (map g.T.Runs.run c.args.runs.now) (run_in (slice_index c.args.order.now c.args.packing.now.at))) (slice_index xs (run_in (slice_index c.args.order.now c.args.packing.now.at))) c.in_ok-anchor.anchor) c.as_slice.ensures c.in_ok-anchor.ensures)
+    (subst (λ (xs : List ℕ). KeyAt (run_at (map g.T.Runs.run c.args.runs.now) (run_in (slice_index c.args.order.now c.args.packing.now.at))) (slice_index xs (run_in (slice_index c.args.order.now c.args.packing.now.at))) c.in_ok-anchor.anchor) c.as_slice.ensures c.in_ok-anchor.ensures.key)
     (subst (λ (xs : List ℕ). CountedOn xs c.split_at-2.result.0.now c.in_ok-later.later.items) c.as_slice-2.ensures c.in_ok-later.ensures)
 
 pub returns-clause-further : goal.returns-clause-further
@@ -62,3 +63,8 @@ returns-clause-further g c =
     let many = length-map c.args.runs.now g.T.Runs.run in
     let some = next_some (map g.T.Runs.run c.args.runs.now) c.args.order.now c.args.packing.now.index.view.segments c.args.packing.now.index.anchors c.args.packing.now.counts.items c.args.packing.now.at c.cut-places.result (omega (arith, many, c.requires.few)) c.requires.packed c.requires.more (subst (λ (xs : List ℕ). GroupCut xs c.cut-places.result) c.split_at.ensures.back c.cut-places.ensures) in
     omega arith
+
+pub returns-clause-one : goal.returns-clause-one
+returns-clause-one g c =
+    ap (λ (gs : List Segment). length gs) c.in_ok-push.ensures.added
+    ∙ length-append c.args.packing.now.index.view.segments (segment_with c.as_slice-3.result.now c.closed.result ∷ [])

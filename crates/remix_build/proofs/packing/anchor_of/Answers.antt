@@ -12,8 +12,8 @@ key_at-requires g c =
     (run_at-map g.T.Runs.run c.args.runs.now c.run_in-run.result c.index-runs-run.result (omega (arith, c.run_in-run.ensures, c.requires.run)) c.index-runs-run.is)
     (subst (λ (r : ℕ). slice_index c.args.counts.now r < length (run_at (map g.T.Runs.run c.args.runs.now) r)) (sym c.run_in-run.ensures) c.requires.place)
 
-pub returns : goal.returns
-returns g c =
+pub returns-clause-key : goal.returns-clause-key
+returns-clause-key g c =
     subst (λ (r : ℕ). IfOk c.key_at.result (λ key. KeyAt (run_at (map g.T.Runs.run c.args.runs.now) r) (slice_index c.args.counts.now r) key)) c.run_in-run.ensures
     (subst (λ (run : List Pair). IfOk c.key_at.result (λ key. KeyAt run (slice_index c.args.counts.now c.run_in-run.result) key))
     (sym (run_at-map g.T.Runs.run c.args.runs.now c.run_in-run.result c.index-runs-run.result (omega (arith, c.run_in-run.ensures, c.requires.run)) c.index-runs-run.is))

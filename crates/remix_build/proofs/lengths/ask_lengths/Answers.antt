@@ -2,7 +2,7 @@ use Rattle.std.proofs.Common.{◌+◌, ◌<◌, ◌^◌, List, length, arith, re
 use Rattle.rdb_base.specs.Runs.{IsRun}
 use Rattle.rdb_base.specs.declared.pair.Pair.{Pair}
 use Rattle.remix_build.proofs.StepLemmas.{all-next}
-use Rattle.remix_build.proofs.lengths.check_runs.Goals as goal
+use Rattle.remix_build.proofs.lengths.ask_lengths.Goals as goal
 
 pub runs-preserved : goal.runs-preserved
 runs-preserved g c =
