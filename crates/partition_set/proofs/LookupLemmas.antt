@@ -1,6 +1,6 @@
--- What stands at the first place of a key. To know: met-none, met-spot.
-use Rattle.std.proofs.Common.{◌≡◌, ℕ, zero, suc, ◌+◌, ◌<◌, true, false, List, [], ◌∷◌, length, drop, refl, sym, ap, subst, ◌∙◌, arith}
-use Rattle.std.specs.Prelude.{slice_get, Option, Some, None}
+-- What stands at the first place of a key. To know: met-none, met-spot; what is read there: read-same, read-other, value-lent.
+use Rattle.std.proofs.Common.{◌≡◌, ℕ, zero, suc, ◌+◌, ◌<◌, ◌≤◌, true, false, List, [], ◌∷◌, length, drop, refl, sym, ap, subst, ◌∙◌, arith}
+use Rattle.std.specs.Prelude.{slice_get, Option, Some, None, Result, Ok, Err, OnErr}
 use Rattle.std.specs.Ordering.{is_eq}
 use Rattle.std.specs.declared.cmp.Ordering.{Ordering}
 use Rattle.std.proofs.lemmas.Option.{slice_get_within}
@@ -8,21 +8,23 @@ use Rattle.rdb_base.specs.Order.{key_cmp}
 use Rattle.rdb_base.specs.Runs.{change_at}
 use Rattle.rdb_base.specs.Levels.{level_of}
 use Rattle.rdb_base.specs.declared.change.Change.{Change}
+use Rattle.rdb_base.specs.declared.change.Change.TheVariants.{Put, Del}
 use Rattle.rdb_base.specs.declared.pair.Pair.{Pair}
 use Rattle.remix_view.specs.declared.spot.Spot.{Spot}
 use Rattle.remix_view.specs.Views.{ViewState, IsFormed}
 use Rattle.remix_view.specs.Spots.{spots_from}
 use Rattle.remix_view.proofs.Lists.{all-at}
-use Rattle.remix_seek.specs.Reads.{KeyAt, KeyOf, ChangeAt, ChangeOf}
+use denote.Ref.{Bor}
+use Rattle.remix_seek.specs.Reads.{KeyAt, KeyOf, ValueAt, ValueOf, LentOf, ChangeAt, ChangeOf}
 use Rattle.remix_seek.specs.Versions.{Version, run_at, spots_after, key_before, change_there, has_key, is_deletion}
 use Rattle.remix_seek.specs.Indexes.{Indexes}
-use Rattle.remix_seek.specs.Places.{IsFirstPlace, versions_before}
+use Rattle.remix_seek.specs.Places.{IsFirstPlace, SeekCost, versions_before}
 use Rattle.remix_seek.proofs.CountLemmas.{drop-get}
 use Rattle.remix_seek.proofs.VersionLemmas.{all_runs}
 use Rattle.remix_seek.proofs.PlaceLemmas.{place_there, before_of}
 use Rattle.remix_seek.proofs.NewestLemmas.{in_level}
 use Rattle.remix_seek.proofs.WalkOrderLemmas.{walk_in_order}
-use Rattle.partition_set.specs.Kept.{pair_change, change_in}
+use Rattle.partition_set.specs.Lookups.{pair_change, change_in, change_of_pair, HasValue, LookupCost}
 
 drop_none : (vs : List Version) (n : ℕ) → slice_get vs n ≡ None → drop n vs ≡ []
 drop_none [] zero e = refl
@@ -95,3 +97,43 @@ read-other runs run place read key order at is other = by_pair (slice_get (run_a
     by_pair : (found : Option Pair) → KeyOf found read → None ≡ pair_change found key
     by_pair None h = absurd h
     by_pair (Some p) h = sym (rw (ap is_eq (ap (λ (k : List ℕ). key_cmp k key) (sym h) ∙ sym is) ∙ other) refl)
+
+-- where the key is there, its pair's change is
+pub change_in-same : (runs : List (List Pair)) (run place : ℕ) (read key : List ℕ) (order : Ordering) → KeyAt (run_at runs run) place read → order ≡ key_cmp read key → is_eq order ≡ true → change_of_pair (slice_get (run_at runs run) place) ≡ change_in runs run place key
+change_in-same runs run place read key order at is same = by_pair (slice_get (run_at runs run) place) at
+  where
+    by_pair : (found : Option Pair) → KeyOf found read → change_of_pair found ≡ pair_change found key
+    by_pair None h = absurd h
+    by_pair (Some p) h = sym (rw (ap is_eq (ap (λ (k : List ℕ). key_cmp k key) (sym h) ∙ sym is) ∙ same) refl)
+
+-- no value is lent at a deletion
+pub change_at-deletion : (pairs : List Pair) (place : ℕ) (lent : Option (Bor (List ℕ))) → ValueAt pairs place lent → lent ≡ None → ChangeAt pairs place Del
+change_at-deletion pairs place lent at none = by_pair (slice_get pairs place) (subst (λ (l : Option (Bor (List ℕ))). LentOf (slice_get pairs place) l) none at)
+  where
+    by_change : (change : Change) → ValueOf change None → Del ≡ change
+    by_change (Put value) h = absurd h
+    by_change Del h = refl
+
+    by_pair : (found : Option Pair) → LentOf found None → ChangeOf found Del
+    by_pair None h = absurd h
+    by_pair (Some p) h = by_change p.change h
+
+-- where a value is lent there is one
+pub value-lent : (pairs : List Pair) (place : ℕ) (lent : Option (Bor (List ℕ))) (value : Bor (List ℕ)) → ValueAt pairs place lent → lent ≡ Some value → HasValue (change_of_pair (slice_get pairs place))
+value-lent pairs place lent value at some = by_pair (slice_get pairs place) (subst (λ (l : Option (Bor (List ℕ))). LentOf (slice_get pairs place) l) some at)
+  where
+    by_change : (change : Change) → ValueOf change (Some value) → HasValue (Some change)
+    by_change (Put v) h = tt
+    by_change Del h = absurd h
+
+    by_pair : (found : Option Pair) → LentOf found (Some value) → HasValue (change_of_pair found)
+    by_pair None h = absurd h
+    by_pair (Some p) h = by_change p.change h
+
+pub needs_value : {X E : Type 0} {P : Type 0} (r : Result X E) → P → OnErr r P
+needs_value (Ok x) p = tt
+needs_value (Err e) p = p
+
+-- a search, and at most one look more
+pub one_more : (view : ViewState) (before middle now : ℕ) → SeekCost view before middle → now ≤ middle + 1 → LookupCost view before now
+one_more view before middle now cost more n covers = omega (arith, cost n covers, more)

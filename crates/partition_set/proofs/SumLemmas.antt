@@ -3,7 +3,7 @@ use Rattle.std.proofs.Common.{◌≡◌, ℕ, zero, suc, ◌+◌, ◌-◌, ◌<�
 use Rattle.std.specs.Prelude.{min}
 use Rattle.std.specs.List.{sum_by}
 use Rattle.std.proofs.lemmas.List.Sums.{sum_by-cons}
-use Rattle.partition_set.specs.Kept.{most_of}
+use Rattle.partition_set.specs.Partitions.{most_of}
 
 -- one member more
 pub sum-next : {X : Type 0} (f : X → ℕ) (xs : List X) (i n : ℕ) (x : X) → n ≡ i + 1 → i < length xs → x ≡ get_or xs i x → sum_by f (take n xs) ≡ sum_by f (take i xs) + f x

@@ -1,3 +1,3 @@
 pub mod Partitions
 pub mod Bounds
-pub mod Kept
+pub mod Lookups

@@ -1,5 +1,5 @@
 -- Partitions: ranges of keys that follow one another, each with its runs and their index, and the level that they are together.
-use Rattle.std.specs.Prelude.{◌≡◌, ℕ, ◌≤◌, true, List, [], ◌∷◌, ◌++◌, length, map, Option, Some, None}
+use Rattle.std.specs.Prelude.{◌≡◌, ℕ, ◌≤◌, ◌-◌, ◌^◌, min, true, List, [], ◌∷◌, ◌++◌, length, map, Option, Some, None}
 use Rattle.std.specs.List.{AllByRecursion, sum_by}
 use Rattle.rdb_base.specs.Ranges.{in_range, IsBelow}
 use Rattle.rdb_base.specs.Runs.{sizes}
@@ -53,3 +53,7 @@ runs_size run runs = sum_by (λ r. sizes (run r)) runs
 -- the sizes of all runs of a set together
 abbrev pub set_size : {T : Type 0} → (T → List Pair) → List (PartState T) → ℕ
 set_size run parts = sum_by (λ part. runs_size run part.runs) parts
+
+-- a sum that stands still at the greatest number of 128 bits
+abbrev pub most_of : ℕ → ℕ
+most_of sum = min sum (2 ^ 128 - 1)

@@ -5,12 +5,12 @@ use remix_seek::{Remix, Share};
 use std::alloc::Global;
 use std::marker::Model;
 
-/// A range of keys: its low bound, the number before which its runs have all entries, and its runs with their index.
+/// The runs of a range of keys, with their index.
 #[derive(Drop)]
 pub struct Partition<T> {
-    /// The low bound. The high one is the next partition's.
+    /// The first key of the range, or a bound below it. The range ends before the low bound of the next partition.
     pub low: Vec<u8>,
-    /// Each entry of the history below this number is in the runs.
+    /// The base number: each entry of the history with a lower number is to be in the runs. No contract says so yet.
     pub base: u64,
     /// The runs, the newest first.
     pub runs: Vec<T>,

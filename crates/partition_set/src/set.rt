@@ -1,19 +1,19 @@
-ghost use Rattle.std.specs.Prelude.{◌≡◌, ◌≢◌, ◌+◌, ◌-◌, ◌<◌, ◌≤◌, Some, IfOk, length, slice_get};
+ghost use Rattle.std.specs.Prelude.{◌≡◌, ◌+◌, ◌<◌, Some, IfOk, OnErr, length, slice_get};
+ghost use Rattle.std.specs.List.{AllByRecursion};
 ghost use Rattle.rdb_base.specs.Runs.{change_at};
-ghost use Rattle.rdb_base.specs.Halvings.{Halved, IsFalling};
-ghost use Rattle.partition_set.specs.Partitions.{IsSet, set_level, set_size};
+ghost use Rattle.partition_set.specs.Partitions.{IsSet, set_level, set_size, most_of};
 ghost use Rattle.partition_set.specs.Bounds.{IsPartOf, LendsBound, low_at};
-ghost use Rattle.partition_set.specs.Kept.{most_of};
+ghost use Rattle.partition_set.specs.Lookups.{HasValue, GetCost};
 
 use crate::lookup::change_of;
 use crate::partition::{Partition, shared};
 use crate::ranges::{bound_at, bounds_passed};
 use crate::sums::size_of_runs;
-use rdb_base::{Change, Key, NoMemory};
+use rdb_base::{Change, Key, NoMemory, Steps};
 use remix_seek::{Runs, Share};
 use std::alloc::Global;
 use std::marker::{Brand, Model};
-use std::sync::ledger::Blank;
+use std::sync::ledger::{Blank, Ledger};
 
 /// Partitions whose ranges follow one another, the first from the empty bound on.
 #[derive(Drop)]
@@ -77,12 +77,29 @@ impl<T: Runs + Drop> PartitionSet<T> {
     }
 
     /// The change at a key, deletions told as such. None exactly where the partition of the key has no change there.
+    /// It can run out of memory only where there is a value to copy.
     pub fn get(&self, alloc: Global, key: &Key) -> Result<Option<Change>, NoMemory>
-        ensures { IfOk result (λ found. found ≡ change_at (set_level T.run self.now) key.now) }
+        ensures change { IfOk result (λ found. found ≡ change_at (set_level T.run self.now) key.now) }
+        ensures memory { OnErr result (HasValue (change_at (set_level T.run self.now) key.now)) }
+    {
+        get_alone::<T, Brand>(alloc, self, key, Blank::new(1))
+    }
+
+    /// The change at a key, as `get` tells it. A key or an anchor that is read is one step.
+    pub fn get_counted<L: Ledger>(
+        &self,
+        alloc: Global,
+        key: &Key,
+        steps: &mut Steps<L>,
+    ) -> Result<Option<Change>, NoMemory>
+        ensures change { IfOk result (λ found. found ≡ change_at (set_level T.run self.now) key.now) }
+        ensures memory { OnErr result (HasValue (change_at (set_level T.run self.now) key.now)) }
+        ensures cost { GetCost self.now steps.old steps.new }
+        ensures some { AllByRecursion (λ part. 0 < length part.view.segments) self.now → steps.old < steps.new }
     {
         let index = self.of_key(key.as_bytes());
         let found = self.part(index);
-        change_of::<T, Brand>(alloc, found, key.as_bytes(), Blank::new(1))
+        change_of(alloc, found, key.as_bytes(), steps)
     }
 
     /// The sizes of all runs together, in bytes. It stands still at the greatest number.
@@ -95,6 +112,23 @@ impl<T: Runs + Drop> PartitionSet<T> {
         }
         total
     }
+}
+
+/// A get whose steps nobody counts.
+fn get_alone<T: Runs + Drop, L: Ledger>(
+    alloc: Global,
+    set: &PartitionSet<T>,
+    key: &Key,
+    blank: Blank,
+) -> Result<Option<Change>, NoMemory>
+    requires name { blank.name ≡ L.name }
+    requires parts { blank.parts ≡ L.parts }
+    requires some { 0 < blank.parts }
+    ensures change { IfOk result (λ found. found ≡ change_at (set_level T.run set.now) key.now) }
+    ensures memory { OnErr result (HasValue (change_at (set_level T.run set.now) key.now)) }
+{
+    let mut steps = Steps::<L>::begin(blank);
+    set.get_counted(alloc, key, &mut steps)
 }
 
 /// Partitions are shared one by one.

@@ -1,6 +1,5 @@
 ghost use Rattle.std.specs.Prelude.{◌≡◌};
-ghost use Rattle.partition_set.specs.Partitions.{runs_size};
-ghost use Rattle.partition_set.specs.Kept.{most_of};
+ghost use Rattle.partition_set.specs.Partitions.{runs_size, most_of};
 
 use remix_seek::Runs;
 

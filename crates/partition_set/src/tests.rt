@@ -49,8 +49,8 @@ fn drawn(state: &mut u64, n: u64) -> u64
     (*state >> 33) % n
 }
 
-/// Random pairs whose keys are numbers from `first` on. In `newest` their changes take the place of those of older
-/// runs.
+/// Random pairs whose keys are numbers from `first` on, none at all once in six times. In `newest` their changes take
+/// the place of those of older runs.
 fn random_pairs(
     alloc: Global,
     state: &mut u64,
@@ -58,10 +58,10 @@ fn random_pairs(
     newest: &mut [Option<Change>],
 ) -> Result<Vec<Pair>, Fail> {
     let mut pairs = Vec::new(alloc);
-    let rarity = 1 + drawn(state, 5);
+    let rarity = drawn(state, 6);
     let mut number = first;
     for change in newest.iter_mut() {
-        if drawn(state, rarity) == 0 {
+        if rarity > 0 && drawn(state, rarity) == 0 {
             let made = random_change(alloc, state)?;
             let key = Key::try_new(alloc, &[number])?;
             pairs.push(Pair {

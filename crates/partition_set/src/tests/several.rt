@@ -147,20 +147,31 @@ fn random_set<L: Ledger>(
     set_of_three(alloc, first, second, third, &[24])
 }
 
-fn has_three_ranges(rt: &impl Abort, set: &PartitionSet<RunInMemory>) -> Result<(), Fail> {
-    if set.count() != 3 {
-        return Err("three partitions")?;
+/// The bounds of a partition, which has the base number 7 and two runs.
+fn range_is(
+    rt: &impl Abort,
+    set: &PartitionSet<RunInMemory>,
+    index: usize,
+    low: &[u8],
+    high: Option<&[u8]>,
+) -> Result<(), Fail> {
+    if index >= set.count() {
+        return Err("no such partition")?;
     }
-    let (low, high) = set.bounds(0);
-    assert_eq!(rt; low, b"".as_slice());
-    assert_eq!(rt; high, Some([8].as_slice()));
-    let (low, high) = set.bounds(2);
-    assert_eq!(rt; low, [16].as_slice());
-    assert_eq!(rt; high, None);
-    let part = set.part(1);
-    assert_eq!(rt; part.low.as_slice(), [8].as_slice());
+    let (begin, end) = set.bounds(index);
+    assert_eq!(rt; begin, low);
+    assert_eq!(rt; end, high);
+    let part = set.part(index);
+    assert_eq!(rt; part.low.as_slice(), low);
     assert_eq!(rt; (part.base, part.runs.len()), (7, 2));
     Ok(())
+}
+
+fn has_three_ranges(rt: &impl Abort, set: &PartitionSet<RunInMemory>) -> Result<(), Fail> {
+    assert_eq!(rt; set.count(), 3);
+    range_is(rt, set, 0, b"", Some([8].as_slice()))?;
+    range_is(rt, set, 1, &[8], Some([16].as_slice()))?;
+    range_is(rt, set, 2, &[16], None)
 }
 
 fn keys_are_of_their_ranges(rt: &impl Abort, set: &PartitionSet<RunInMemory>) {

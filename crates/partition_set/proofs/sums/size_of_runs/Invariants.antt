@@ -1,6 +1,5 @@
 use Rattle.std.proofs.Common.{◌≡◌, take}
-use Rattle.partition_set.specs.Partitions.{runs_size}
-use Rattle.partition_set.specs.Kept.{most_of}
+use Rattle.partition_set.specs.Partitions.{runs_size, most_of}
 use Rattle.partition_set.proofs.sums.size_of_runs.Given as goal
 
 abbrev pub invariant-runs : goal.invariant-runs

@@ -1,6 +1,5 @@
 use Rattle.std.proofs.Common.{◌≡◌, take}
-use Rattle.partition_set.specs.Partitions.{set_size}
-use Rattle.partition_set.specs.Kept.{most_of}
+use Rattle.partition_set.specs.Partitions.{set_size, most_of}
 use Rattle.partition_set.proofs.set.PartitionSet.total.Given as goal
 
 abbrev pub invariant-parts : goal.invariant-parts
