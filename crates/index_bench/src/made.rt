@@ -17,7 +17,7 @@ pub(crate) fn keys_in_all(load: &Load) -> u64
     load.runs as u64 * load.pairs as u64 * 10 / 11 + 1
 }
 
-/// All runs, the newest first. None where memory is not there, or the runs are more than 8.
+/// All runs, the newest first. None if they are more than 8, or it runs out of memory.
 pub(crate) fn made_runs(alloc: Global, load: &Load) -> Option<Vec<RunInMemory>>
     ensures { IfSome result (λ runs. length runs.items ≤ 8) }
 {

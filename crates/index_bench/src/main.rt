@@ -1,11 +1,11 @@
 //! Times the index of several runs: building it, and seeking in it.
 //!
-//! Stands for   a run of one of two works over runs that are made first
+//! Stands for   one piece of work over runs that it makes first: building their index, or seeking in it
 //! Promises     that it is safe and returns
-//! Goes in      five words: the work, `build` or `seek`, and the numbers of runs, of pairs a run, of times, and of rows
-//!              a seek
+//! Goes in      five words: the work, `build` or `seek`, and the numbers of runs (at most 8), of pairs a run, of times,
+//!              and of rows a seek
 //! Comes out    for `seek` a sum of what was read, for `build` of the segments, so that nothing is left out;
-//!              status 2 where the words are not these
+//!              status 2 if the words are not these, 6 if there is not enough memory or the sum cannot be written
 //! Stands on    rdb_base, remix_view, remix_seek, remix_build
 //! Begin at     src/seeks.rt, `sum_of_seeks`
 //! Leaves open  how long it takes: `bench/index` measures that
@@ -43,6 +43,9 @@ fn load_of(rt: &HostRuntime) -> Option<Load> {
         _ => return None,
     };
     let runs = args.next()?.as_str().parse::<u8>().ok()?;
+    if runs > 8 {
+        return None;
+    }
     let pairs = args.next()?.as_str().parse::<u32>().ok()?;
     let times = args.next()?.as_str().parse::<u32>().ok()?;
     let rows = args.next()?.as_str().parse::<u32>().ok()?;
@@ -55,7 +58,7 @@ fn load_of(rt: &HostRuntime) -> Option<Load> {
     })
 }
 
-/// The sum of all that a load reads. None where memory is not there.
+/// The sum of all that a load reads. None if it runs out of memory.
 fn sum_of<L: Ledger>(alloc: Global, load: &Load, blank: Blank) -> Option<u64>
     requires name { blank.name ≡ L.name }
     requires parts { blank.parts ≡ L.parts }

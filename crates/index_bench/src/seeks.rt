@@ -6,8 +6,19 @@ use crate::keys::{key_from, mixed};
 use crate::load::Load;
 use rdb_base::Steps;
 use remix_seek::{Remix, RunInMemory, Runs};
-use remix_view::{Spot, Walk};
+use remix_view::{Spot, View, Walk};
 use std::sync::ledger::Ledger;
+
+/// How many rows are read at a time.
+const TOGETHER: usize = 16;
+
+/// A spot that was not written down yet.
+const NOWHERE: Spot = Spot {
+    run: 0,
+    place: 0,
+    old: false,
+    del: false,
+};
 
 /// Seeks so often and sums up so many rows each time.
 pub(crate) fn sum_of_seeks<L: Ledger>(
@@ -31,6 +42,9 @@ pub(crate) fn sum_of_seeks<L: Ledger>(
 }
 
 /// The sum of the next rows of a walk.
+///
+/// A view holds no key, so it tells where the next rows stand before any is read. They are read many at a time, since
+/// the machine then waits for the bytes of all of them at once.
 fn sum_of_rows<L: Ledger>(
     from: Walk,
     rows: u32,
@@ -39,16 +53,45 @@ fn sum_of_rows<L: Ledger>(
     steps: &mut Steps<L>,
 ) -> u64 {
     let mut walk = from;
-    let mut left = rows;
+    let mut left = rows as usize;
     let mut sum: u64 = 0;
-    'rows: while left > 0 {
-        let Some(spot) = walk.next(&index.view) else {
+    'groups: while left > 0 {
+        let wanted = left.min(TOGETHER);
+        let mut spots = [NOWHERE; TOGETHER];
+        let found = next_rows(&mut walk, &index.view, wanted, &mut spots);
+        let (front, _) = spots.split_at(found);
+        sum = sum.wrapping_add(sum_of_spots(front, runs, steps));
+        if found < wanted {
             return sum;
+        }
+        left -= wanted;
+    }
+    sum
+}
+
+/// Writes down where the next rows stand, as many as are wanted, and tells how many there are.
+fn next_rows(walk: &mut Walk, view: &View, wanted: usize, spots: &mut [Spot; TOGETHER]) -> usize
+    requires { wanted ≤ 16 }
+    ensures { result ≤ wanted }
+{
+    let mut found = 0;
+    'rows: while found < wanted {
+        let Some(spot) = walk.next(view) else {
+            return found;
         };
         if !spot.old && !spot.del {
-            sum = sum.wrapping_add(sum_of_row(spot, runs, steps));
-            left -= 1;
+            spots[found] = spot;
+            found += 1;
         }
+    }
+    found
+}
+
+/// The sum of the rows that stand there.
+fn sum_of_spots<L: Ledger>(spots: &[Spot], runs: &[RunInMemory], steps: &mut Steps<L>) -> u64 {
+    let mut sum: u64 = 0;
+    for spot in spots {
+        sum = sum.wrapping_add(sum_of_row(*spot, runs, steps));
     }
     sum
 }
