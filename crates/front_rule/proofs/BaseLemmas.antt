@@ -72,7 +72,7 @@ get_or-climbs d c (x ∷ xs) zero (suc j) h all le = get_or-from d x xs j h.1 al
 get_or-climbs d c (x ∷ xs) (suc i) zero h all le = absurd (omega arith)
 get_or-climbs d c (x ∷ xs) (suc i) (suc j) h all le = get_or-climbs d x xs i j h.1 all.1 (omega arith)
 
--- what a beginning of the bases has at a place, the bases have
+-- what a front of the bases has at a place, the bases have
 get_or-prefix : (i d e : ℕ) (xs ys : List ℕ) → IsPrefix xs ys → i < length xs → get_or ys i d ≡ get_or xs i e
 get_or-prefix i d e [] ys p below = absurd (omega arith)
 get_or-prefix i d e (x ∷ xs) [] p below = absurd (cc (p.1))

@@ -1,4 +1,4 @@
--- Beginnings of the list that end in a memtable, and what leaves have in them. To know: `Stands-whole`, `Stands-longer`, `GoesOn-pen`, `GoesOn-between`, `entries_in-between`.
+-- Fronts of the list that end in a memtable, and what leaves have in them. To know: `Stands-whole`, `Stands-longer`, `GoesOn-pen`, `GoesOn-between`, `entries_in-between`.
 use Rattle.std.proofs.Common.{◌≡◌, ◌⊎◌, inl, inr, ⊎_elim, ℕ, ◌≤◌, ◌<◌, max, nat_lt, Bool, true, false, cond, List, length, take, drop, refl, ap, sym, ◌∙◌, subst, arith}
 use Rattle.std.proofs.lemmas.List.{length-take-le, length-take, take_all, take-append-drop}
 use Rattle.std.proofs.lemmas.Bool.Decides.{nat_tests}
@@ -29,7 +29,7 @@ longer-either P xs ys p q = ⊎_elim (λ h. subst P (sym h.1) p) (λ h. subst P 
 pub length-longer : {A : Type 0} (xs ys : List A) → length (longer xs ys) ≡ max (length xs) (length ys)
 length-longer xs ys = ⊎_elim (λ h. omega (arith, ap length h.1, h.0)) (λ h. omega (arith, ap length h.1, h.0)) (longer-cases xs ys)
 
--- two beginnings of one list both begin the longer
+-- two fronts of one list are both fronts of the longer
 pub IsPrefix-longer_first : {A : Type 0} (xs ys zs : List A) → IsPrefix xs zs → IsPrefix ys zs → IsPrefix xs (longer xs ys)
 IsPrefix-longer_first xs ys zs p q =
     ⊎_elim (λ h. subst (λ l. IsPrefix xs l) (sym h.1) (prefix_self xs)) (λ h. subst (λ l. IsPrefix xs l) (sym h.1) (prefix_shorter xs ys zs p q h.0)) (longer-cases xs ys)
@@ -38,7 +38,7 @@ pub IsPrefix-longer_second : {A : Type 0} (xs ys zs : List A) → IsPrefix xs zs
 IsPrefix-longer_second xs ys zs p q =
     ⊎_elim (λ h. subst (λ l. IsPrefix ys l) (sym h.1) (prefix_shorter ys xs zs q p (omega (arith, h.0)))) (λ h. subst (λ l. IsPrefix ys l) (sym h.1) (prefix_self ys)) (longer-cases xs ys)
 
--- ---- beginnings that end in a memtable
+-- ---- fronts that end in a memtable
 
 -- all that the pen knows
 pub Stands-whole : (first : ℕ) (g : PenPart) → IsWell first g → Stands g g.memtable g.bases g.list
@@ -68,7 +68,7 @@ Stands-base first g m bases list well s =
       upto = let u = s.upto in let f = s.from in omega (arith, size);
     }
 
--- of two beginnings that end in their memtables, the longer ends in the later memtable
+-- of two fronts that end in their memtables, the longer ends in the later memtable
 pub Stands-longer : (first : ℕ) (g : PenPart) (m : ℕ) (b : List ℕ) (xs : List Entry) (n : ℕ) (c : List ℕ) (ys : List Entry) → IsWell first g → Stands g m b xs → Stands g n c ys
     → Stands g (max m n) (longer b c) (longer xs ys)
 Stands-longer first g m b xs n c ys well s t =
@@ -87,7 +87,7 @@ Stands-longer first g m b xs n c ys well s t =
 
 -- ---- memtables go on
 
--- from each beginning to the open memtable
+-- from the memtable in which a front ends to the open one
 pub GoesOn-pen : (g : PenPart) (m : ℕ) (bases : List ℕ) (list : List Entry) → Stands g m bases list → GoesOn m bases g.memtable g.bases
 GoesOn-pen g m bases list s = record { bases = s.bases_is; numbers = s.number }
 

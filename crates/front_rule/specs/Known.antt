@@ -32,7 +32,7 @@ leaf_after l list = record l { list = list }
 abbrev pub pass_with : PassPart → PenPart → Entry → PassPart
 pass_with a p e = record a { seen = p.list ++ e ∷ []; own = a.own ++ e ∷ []; memtable = p.memtable; bases = p.bases }
 
--- ---- notes: of the pen, of a pass, of a leaf, and of a leaf's memtable at its beginning
+-- ---- notes: of the pen, of a pass, of a leaf, and of the list up to the base of a leaf's memtable
 
 abbrev pub note_of_pen : PenPart → NotePart
 note_of_pen p = record { list = p.list; memtable = p.memtable; bases = p.bases; safe = p.safe }

@@ -64,7 +64,7 @@ entries_in l list = filter (λ e. in_range l.low l.high e.key) (drop (base_of l.
 abbrev pub HasAllOf : LeafPart → List Entry → Type 0
 HasAllOf l list = entries_in l list ≡ entries_in l l.list
 
--- a beginning of the pen's list that ends in this memtable, which is the last of these
+-- a front of the pen's list that ends in this memtable, which is the last of these
 pub record Stands (g : PenPart) (memtable : ℕ) (bases : List ℕ) (list : List Entry) : Type 0 where
   pub list_is : IsPrefix list g.list
   pub bases_is : IsPrefix bases g.bases

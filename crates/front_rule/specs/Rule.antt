@@ -20,7 +20,7 @@ pub record LeafFits (g : PenPart) (l : LeafPart) : Type 0 where
   pub stands : Stands g l.memtable l.bases l.list
   pub has : HasAllOf l (take (end_of g l.bases) g.list)
 
--- a pass has seen a beginning, and its own calls are those of its caller there and in the whole list
+-- a pass has seen a front of the list, and its own calls are those of its caller there and in the whole list
 pub record PassFits (g : PenPart) (a : PassPart) : Type 0 where
   pub stands : Stands g a.memtable a.bases a.seen
   pub calls : calls_of g.list a.caller ≡ a.own
@@ -28,7 +28,7 @@ pub record PassFits (g : PenPart) (a : PassPart) : Type 0 where
   pub safe : a.safe ≤ g.safe
   pub told : a.told ≤ g.failed
 
--- a note or a pin has a beginning
+-- a note or a pin knows a front of the list
 pub record NoteFits (g : PenPart) (t : NotePart) : Type 0 where
   pub stands : Stands g t.memtable t.bases t.list
   pub safe : t.safe ≤ g.safe

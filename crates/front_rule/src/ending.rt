@@ -9,8 +9,8 @@ use crate::pass::Pass;
 use crate::pen::Pen;
 use crate::store_name::StoreName;
 
-/// The pass ends, and the pen keeps its caller's entries. What the pass had seen is a beginning of the pen's list,
-/// its entries there are its own, and it was told of no more failures than the pen has. Its caller had got a pass and
+/// The pass ends, and the pen keeps its caller's entries. What the pass had seen is a front of the pen's list, its
+/// entries there are its own, and it was told of no more failures than the pen has. Its caller had got a pass and
 /// had not ended. The list is fair, and has no entry of a caller that never got a pass.
 pub fn end<K: StoreName>(pen: &mut Pen<K>, pass: Pass<K>)
     ensures pen { pen.new ≡ pen_ended pen.old pass }

@@ -6,7 +6,7 @@ use crate::store_name::StoreName;
 use atomic_table::Badge;
 use std::marker::{Model, PhantomData};
 
-/// A seat that knows a beginning of the list. Contracts see it as what it knows.
+/// A seat that knows a front of the list. Contracts see it as what it knows.
 #[derive(Drop)]
 pub struct FrontNote<K: StoreName> {
     pub(crate) badge: Badge<Parts>,

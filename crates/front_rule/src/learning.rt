@@ -51,8 +51,8 @@ pub fn meet<K: StoreName>(a: &mut Pass<K>, b: &mut Pass<K>)
     learn(a, tell(b));
 }
 
-/// The pass sees what the leaf has seen; the answer is the pass's front, which has not fallen. Unless the pass knew
-/// of a later memtable, the leaf has all entries of its range that the pass has then seen.
+/// The pass sees what the leaf has seen; the answer is the number after the last entry's that it has then seen. Unless
+/// the pass knew of a later memtable, the leaf has all entries of its range that the pass has then seen.
 pub fn look<K: StoreName>(leaf: &mut LeafMark<K>, pass: &mut Pass<K>) -> u64
     ensures leaf { leaf.new ≡ leaf.old }
     ensures pass { pass.new ≡ learnt pass.old (note_of_leaf leaf.old) }
@@ -74,7 +74,7 @@ pub fn look<K: StoreName>(leaf: &mut LeafMark<K>, pass: &mut Pass<K>) -> u64
     pass.front
 }
 
-/// The pass sees all that the pen knows, and has its safe position; the answer is the front of both.
+/// The pass sees all that the pen knows, and has its safe position; the answer is the number after the last entry's.
 pub fn catch_up<K: StoreName>(pen: &mut Pen<K>, pass: &mut Pass<K>) -> u64
     ensures pen { pen.new ≡ pen.old }
     ensures pass { pass.new ≡ pass_caught pass.old pen.old }

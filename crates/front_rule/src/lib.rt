@@ -1,8 +1,8 @@
 //! One history for all callers: one shared word, its length, and what each holder of a seat knows of it.
 //!
 //! Stands for   one list of entries that only grows, and for each seat a part of it (`specs/Rule.antt`, `Sound`)
-//! Promises     an entry is appended once, at the number that is answered; what a pass has seen is a beginning of the
-//!              one list, and never gets shorter; a leaf has all entries of its range; at the end the list has
+//! Promises     an entry is appended once, at the number that is answered; what a pass has seen is a front of the one
+//!              list, and never gets shorter; a leaf has all entries of its range; at the end the list has
 //!              each caller's calls, in order, and nobody else's
 //! Goes in      entries, keys and positions; the passes, marks and notes themselves
 //! Comes out    numbers of entries, and passes, marks and notes that have seen more
@@ -16,7 +16,7 @@
 //!     pen          under the log's lock     knows the whole list, and alone makes it longer
 //!     leaf mark    beside its leaf          knows all entries of its range in its memtable
 //!     pass         with its caller          knows what the caller has seen, and the caller's own calls
-//!     note, pin    anywhere                 knows a beginning of the list
+//!     note, pin    anywhere                 knows a front of the list
 //!     keeper       under a lock of its own  keeps the numbers of the first live segment and of the next table
 //!     live note    anywhere                 knows the keeper's numbers at some time
 //!

@@ -33,7 +33,7 @@ pub struct Ended {
     pub calls: LinkedList<Entry>,
 }
 
-/// What the mark of a leaf knows: a beginning of the list that has all entries of the leaf's range.
+/// What the mark of a leaf knows: a front of the list that has all entries of the leaf's range.
 pub struct LeafPart {
     /// The number of its memtable.
     pub memtable: u64,
@@ -49,7 +49,7 @@ pub struct LeafPart {
 /// What a pass knows: what its caller has seen, and the caller's own calls.
 pub struct PassPart {
     pub caller: u64,
-    /// A beginning of the list.
+    /// A front of the list.
     pub seen: LinkedList<Entry>,
     /// The caller's calls, in order: the entries that it appended.
     pub own: LinkedList<Entry>,
@@ -65,7 +65,7 @@ pub struct PassPart {
     pub told: u64,
 }
 
-/// What a note or a pin knows: a beginning of the list.
+/// What a note or a pin knows: a front of the list.
 pub struct NotePart {
     pub list: LinkedList<Entry>,
     /// The number of the memtable in which it ends.

@@ -43,8 +43,8 @@ impl<K: StoreName> Model for Pass<K> {
 }
 
 impl<K: StoreName> Pass<K> {
-    /// The number after the last entry's that it has seen. A crate above learns here what holds of every pass: the
-    /// front is within the numbers, and its caller's calls in what it has seen are its own.
+    /// The number after the last entry's that it has seen. A crate above learns here what holds of every pass: that
+    /// number is at most 2^62, and its caller's calls in what it has seen are its own.
     pub fn front(&self) -> u64
         ensures front { result ≡ K.first + length self.now.seen }
         ensures within { result ≤ 2 ^ 62 }

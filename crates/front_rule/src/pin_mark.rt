@@ -5,7 +5,7 @@ use crate::front_note::FrontNote;
 use crate::store_name::StoreName;
 use std::marker::Model;
 
-/// The seat of a pin: it knows the beginning of the list that its caller had seen. Contracts see it as what it knows.
+/// The seat of a pin: it knows the front of the list that its caller had seen. Contracts see it as what it knows.
 #[derive(Drop)]
 pub struct PinMark<K: StoreName> {
     note: FrontNote<K>,

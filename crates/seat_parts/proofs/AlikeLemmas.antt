@@ -36,14 +36,14 @@ Alike-trans xs ys zs p q = record { sums = λ f. q.sums f ∙ p.sums f; all = λ
 pub Alike-same : {X : Type 0} (xs ys : List X) → xs ≡ ys → Alike xs ys
 Alike-same xs ys e = record { sums = λ f. ap (weigh f) (sym e); all = λ P h. subst (AllByRecursion P) e h }
 
--- after a common beginning
+-- after a common front
 pub Alike-append : {X : Type 0} (xs ys zs : List X) → Alike ys zs → Alike (xs ++ ys) (xs ++ zs)
 Alike-append xs ys zs p = record {
   sums = λ f. omega (arith, p.sums f, weigh-append f xs ys, weigh-append f xs zs);
   all = λ P h. all-append P xs zs (all-front P xs ys h) (p.all P (all-back P xs ys h));
 }
 
--- two beginnings the other way round
+-- two fronts the other way round
 pub Alike-swap : {X : Type 0} (xs ys zs : List X) → Alike (xs ++ (ys ++ zs)) (ys ++ (xs ++ zs))
 Alike-swap xs ys zs = record {
   sums = λ f. omega (arith, weigh-append f xs (ys ++ zs), weigh-append f ys zs, weigh-append f ys (xs ++ zs), weigh-append f xs zs);
