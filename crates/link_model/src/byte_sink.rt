@@ -1,5 +1,5 @@
 //! A sink in memory, some of whose calls fail on purpose.
-ghost use Rattle.std.specs.Prelude.{◌≡◌, ◌≤◌, [], length, Some, Ok, Err, IfOk};
+ghost use Rattle.std.specs.Prelude.{◌≡◌, ◌≤◌, [], true, length, Some, Ok, Err, IfOk};
 ghost use Rattle.link_model.specs.Calls.{PutAnswer};
 ghost use Rattle.fault_count.specs.Causes.{HasCause};
 ghost use Rattle.link_model.specs.Streams.{PutsFront, OneFault};
@@ -87,6 +87,8 @@ impl Sink for ByteSink {
     ghost written = { λ k. Some k.bytes };
 
     ghost faults = { λ k. k.faults };
+
+    ghost is_passed_on = { λ _. true };
 
     fn put(&mut self, piece: &[u8]) -> Result<(), Failed>
         ensures bytes { PutsFront (Some self.old.bytes) (Some self.new.bytes) result piece.now }

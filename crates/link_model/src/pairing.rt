@@ -33,6 +33,7 @@ pub fn stream_pair<R: Read + Drop, W: Write + Drop>(
     let sink = WriterSink {
         outgoing: Arc::try_clone(&outgoing)?,
         faults: FaultCount::new(),
+        is_passed_on: true,
     };
     let source = ReaderSource {
         reader: Attempts::new(reader),

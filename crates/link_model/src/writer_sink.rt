@@ -19,6 +19,8 @@ use std::sync::{Arc, Mutex};
 pub struct WriterSink<W> {
     pub(crate) outgoing: Arc<Mutex<Outgoing<W>>, Global>,
     pub(crate) faults: FaultCount,
+    /// Whether the last piece was empty, and all that was held was passed on.
+    pub(crate) is_passed_on: bool,
 }
 
 impl<W> WriterSink<W> {
@@ -44,11 +46,19 @@ impl<W: Write + Drop> Sink for WriterSink<W> {
 
     ghost faults = { λ k. k.faults };
 
+    ghost is_passed_on = { λ k. k.is_passed_on };
+
     fn put(&mut self, piece: &[u8]) -> Result<(), Failed> {
-        let done = self.put_gathered(piece);
-        if done.is_err() {
-            self.faults.rise();
+        match self.put_gathered(piece) {
+            Ok(()) => {
+                self.is_passed_on = piece.is_empty();
+                Ok(())
+            }
+            Err(Failed) => {
+                self.is_passed_on = false;
+                self.faults.rise();
+                Err(Failed)
+            }
         }
-        done
     }
 }
