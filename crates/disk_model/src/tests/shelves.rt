@@ -1,4 +1,5 @@
 //! Shelves: what they hold, which of their calls fail, and what a crash leaves.
+use super::way;
 use crate::{DeviceError, MemoryShelf, Shelf, SteadyShelf};
 use std::alloc::Global;
 use std::process::Abort;
@@ -24,17 +25,25 @@ fn shelf_of(alloc: Global, files: Files<'_>, failing: &[u64]) -> Result<MemorySh
 
 // Makes a call, and answers how it ended.
 fn ended(alloc: Global, shelf: &mut MemoryShelf, call: Call<'_>) -> &'static str {
-    let error = match call {
-        Call::Put(number, bytes) => shelf.put(alloc, number, bytes).err(),
-        Call::Remove(number) => shelf.remove(alloc, number).err(),
-        Call::Get(number) => shelf.get(alloc, number).err(),
-        Call::List => shelf.list(alloc).err(),
-    };
-    match error {
-        None => "ok",
-        Some(DeviceError::Fault(_)) => "fault",
-        Some(DeviceError::Memory) => "memory",
+    match call {
+        Call::Put(number, bytes) => way(shelf.put(alloc, number, bytes)),
+        Call::Remove(number) => way(shelf.remove(alloc, number)),
+        Call::Get(number) => way(shelf.get(alloc, number)),
+        Call::List => way(shelf.list(alloc)),
     }
+}
+
+fn put<H: Shelf>(
+    alloc: Global,
+    shelf: &mut H,
+    number: u64,
+    bytes: &[u8],
+) -> Result<(), DeviceError> {
+    shelf.put(alloc, number, bytes)
+}
+
+fn remove<H: Shelf>(alloc: Global, shelf: &mut H, number: u64) -> Result<(), DeviceError> {
+    shelf.remove(alloc, number)
 }
 
 fn has<H: Shelf>(
@@ -74,9 +83,9 @@ fn has_all(
 
 fn puts_replace<H: Shelf>(rt: &(impl Abort + AllocGlobal), shelf: &mut H) -> Result<(), Fail> {
     let alloc = rt.alloc();
-    shelf.put(alloc, 7, b"seven")?;
-    shelf.put(alloc, 2, b"two")?;
-    shelf.put(alloc, 7, b"7")?;
+    put(alloc, shelf, 7, b"seven")?;
+    put(alloc, shelf, 2, b"two")?;
+    put(alloc, shelf, 7, b"7")?;
     has(rt, shelf, 7, Some(b"7"))?;
     has(rt, shelf, 3, None)?;
     lists(rt, shelf, &[2, 7])
@@ -87,9 +96,9 @@ fn removes_leave_the_others<H: Shelf>(
     shelf: &mut H,
 ) -> Result<(), Fail> {
     let alloc = rt.alloc();
-    shelf.put(alloc, u64::MAX, b"")?;
-    shelf.remove(alloc, 7)?;
-    shelf.remove(alloc, 7)?;
+    put(alloc, shelf, u64::MAX, b"")?;
+    remove(alloc, shelf, 7)?;
+    remove(alloc, shelf, 7)?;
     has(rt, shelf, 7, None)?;
     has(rt, shelf, u64::MAX, Some(b""))?;
     lists(rt, shelf, &[2, u64::MAX])
