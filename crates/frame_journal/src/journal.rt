@@ -42,8 +42,8 @@ impl<S: Strip> Model for Journal<S> {
 }
 
 impl<S: Strip> Journal<S> {
-    /// Opens a strip as a journal: syncs it, reads it once, and writes nothing. The frames come in
-    /// order. A strip without a frame opens, too, and is not ready until a clear succeeded.
+    /// Opens a strip as a journal: syncs it, reads it once, and leaves its bytes as they were. The frames come in
+    /// order. A strip without a frame opens, too, and is not ready until a clear succeeds.
     pub fn open(alloc: Global, mut strip: S) -> Result<(Journal<S>, Vec<Frame>), (S, JournalError)>
         // What the strip stands for, and how far the journal has come.
         ensures frames { IfOk result (λ found. OfBytes S.Strip strip (StandsFor found.1.items)) }
