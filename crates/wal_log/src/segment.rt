@@ -62,8 +62,8 @@ impl<S: Strip> Model for Segment<S> {
 }
 
 impl<S: Strip> Segment<S> {
-    /// Opens a strip as a log that begins in segment `number`, whose first entry has the number `first`. It writes
-    /// nothing. The entries come in order. Where no header stands there are none, and the segment is to be started.
+    /// Opens a strip as segment `number` of a log, whose first entry has the number `first`. The strip's bytes stay as
+    /// they were. The entries come in order. A strip without a header has none, and the segment has to be started.
     pub fn open(
         alloc: Global,
         strip: S,
@@ -149,6 +149,7 @@ impl<S: Strip> Segment<S> {
     /// Makes room for one entry.
     pub fn reserve(&mut self, entry: &Entry) -> Result<(), NoMemory>
         ensures room { OnOk result (length (entry_field entry.now) ≤ self.new.batch.room) }
+        ensures kept { self.old.batch.room ≤ self.new.batch.room }
         ensures pending { self.new.batch.entries ≡ self.old.batch.entries }
         ensures entries { self.new.entries ≡ self.old.entries }
         ensures synced { self.new.synced ≡ self.old.synced }
