@@ -1,4 +1,4 @@
--- Steps by which the pen's list and memtables stay: a safe position, a failure, a new pass, a pass that catches up, a pass that ends.
+-- Steps by which the pen's list and memtables stay: a safe place, a failure, a new pass, a pass that catches up, a pass that ends.
 -- To know: `Fits-later_all`, `Goes-settle`, `Goes-fail`, `Goes-make`, `Goes-catch`, `Goes-end`.
 use Rattle.std.proofs.Common.{◌≡◌, ℕ, ◌+◌, ◌≤◌, ◌<◌, ◌==◌, List, [], ◌∷◌, length, take, get_or, refl, ap, sym, ◌∙◌, subst, arith, eq-eqb, ne_eqb}
 use Rattle.std.specs.List.{AllByRecursion}
@@ -23,7 +23,7 @@ use Rattle.front_rule.proofs.StandsLemmas.{Stands-whole, GoesOn-pen}
 
 -- ---- what other seats know stays true
 
--- the pen's list and memtables are as they were; neither its safe position nor its failures fell
+-- the pen's list and memtables are as they were; neither its safe place nor its failures fell
 pub record IsLater (g h : PenPart) : Type 0 where
   pub list : h.list ≡ g.list
   pub bases : h.bases ≡ g.bases
@@ -68,7 +68,7 @@ pub Fits-later_all : (g h : PenPart) (xs : List Part) → IsLater g h → weigh 
 Fits-later_all g h [] l none f = tt
 Fits-later_all g h (x ∷ xs) l none f = (Fits-later g h x l (omega arith) f.0, Fits-later_all g h xs l (omega arith) f.1)
 
--- ---- the safe position
+-- ---- the safe place
 
 pub Goes-settle : (upto first : ℕ) (v : List Part) → CanSettle upto first v → Goes (Sound first) v (λ n. n) (Settles upto first v)
 Goes-settle upto first (part.Pen p ∷ []) can n others s =

@@ -56,7 +56,7 @@ Joins-append first key id v other w is =
 pub SoundWith-pen : (first n : ℕ) (p : PenPart) (xs : List Part) → Sound first n (part.Pen p ∷ xs) → (k : LivePart) × SoundWith first n p k (part.Pen p ∷ xs)
 SoundWith-pen first n p xs s = (s.keeper, subst (λ (g : PenPart). SoundWith first n g s.keeper (part.Pen p ∷ xs)) (sym s.rule.fit.0) s.rule)
 
--- a pen that differs in other things than its list, bases, safe position and ended callers
+-- a pen that differs in other things than its list, bases, safe place and ended callers
 pub IsWell-same : (first : ℕ) (g : PenPart) (memtable live next failed made : ℕ) → IsWell first g
     → IsWell first (record g { memtable = memtable; live = live; next = next; failed = failed; made = made })
 IsWell-same first g memtable live next failed made w = record {

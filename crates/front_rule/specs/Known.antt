@@ -40,7 +40,7 @@ note_of_pen p = record { list = p.list; memtable = p.memtable; bases = p.bases; 
 abbrev pub note_of_pass : PassPart → NotePart
 note_of_pass a = record { list = a.seen; memtable = a.memtable; bases = a.bases; safe = a.safe }
 
--- a leaf knows of no safe position
+-- a leaf knows of no safe place
 abbrev pub note_of_leaf : LeafPart → NotePart
 note_of_leaf l = record { list = l.list; memtable = l.memtable; bases = l.bases; safe = 0 }
 
@@ -62,9 +62,9 @@ learnt a t = record a { seen = longer a.seen t.list; memtable = max a.memtable t
 abbrev pub pass_caught : PassPart → PenPart → PassPart
 pass_caught a p = record a { seen = p.list; memtable = p.memtable; bases = p.bases; safe = p.safe }
 
--- ---- the pen's safe position, failures, and the ends of passes
+-- ---- the pen's safe place, failures, and the ends of passes
 
--- the pen, whose safe position is then at least this place
+-- the pen, whose safe place is then at least this one
 abbrev pub pen_settled : PenPart → ℕ → PenPart
 pen_settled p upto = record p { safe = max p.safe upto }
 

@@ -141,7 +141,7 @@ Cuts at first v n w = Unit {0}
 
 -- ---- the word is loaded, and stays: the pen
 
--- the pen's safe position rises to this place of its list
+-- the pen's safe place rises to this place of its list
 abbrev pub CanSettle : ℕ → ℕ → List Part → Type 0
 CanSettle upto first (part.Pen p ∷ []) = upto ≤ length p.list
 CanSettle upto first v = ⊥

@@ -84,7 +84,7 @@ impl<E: TellsKey> Kind for Cutting<E> {
     fn goes() {}
 }
 
-/// The pen's safe position rises.
+/// The pen's safe place rises.
 pub(crate) struct Settling<E: TellsNumber> {
     of: PhantomData<E>,
 }

@@ -15,7 +15,7 @@ use crate::pen::Pen;
 use crate::store_name::StoreName;
 use std::cmp::max;
 
-/// The pass takes in a note: it has then seen the longer of both lists, and has the greater safe position.
+/// The pass takes in a note: it has then seen the longer of both lists, and has the greater safe place.
 pub fn learn<K: StoreName>(pass: &mut Pass<K>, note: FrontNote<K>)
     ensures pass { pass.new ≡ learnt pass.old note }
     ensures forward { IsPrefix pass.old.seen pass.new.seen }
@@ -37,7 +37,7 @@ pub fn learn<K: StoreName>(pass: &mut Pass<K>, note: FrontNote<K>)
     pass.memtable = max(pass.memtable, memtable);
 }
 
-/// Both passes have then seen the longer of what the two had seen, and have the greater safe position.
+/// Both passes have then seen the longer of what the two had seen, and have the greater safe place.
 pub fn meet<K: StoreName>(a: &mut Pass<K>, b: &mut Pass<K>)
     ensures second { b.new ≡ learnt b.old (note_of_pass a.old) }
     ensures first { a.new ≡ learnt a.old (note_of_pass b.new) }
@@ -74,7 +74,7 @@ pub fn look<K: StoreName>(leaf: &mut LeafMark<K>, pass: &mut Pass<K>) -> u64
     pass.front
 }
 
-/// The pass sees all that the pen knows, and has its safe position; the answer is the number after the last entry's.
+/// The pass sees all that the pen knows, and has its safe place; the answer is the number after the last entry's.
 pub fn catch_up<K: StoreName>(pen: &mut Pen<K>, pass: &mut Pass<K>) -> u64
     ensures pen { pen.new ≡ pen.old }
     ensures pass { pass.new ≡ pass_caught pass.old pen.old }

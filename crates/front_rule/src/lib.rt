@@ -4,7 +4,7 @@
 //! Promises     an entry is appended once, at the number that is answered; what a pass has seen is a front of the one
 //!              list, and never gets shorter; a leaf has all entries of its range; at the end the list has
 //!              each caller's calls, in order, and nobody else's
-//! Goes in      entries, keys and positions; the passes, marks and notes themselves
+//! Goes in      entries, keys and numbers; the passes, marks and notes themselves
 //! Comes out    numbers of entries, and passes, marks and notes that have seen more
 //! Stands on    rdb_base for entries, disk_model for the names of books, seat_parts for its lemmas; of the kit,
 //!              atomic_table for the word and its seats

@@ -9,7 +9,7 @@ use crate::store_name::StoreName;
 use crate::told::TellsNumber;
 use std::marker::Brand;
 
-/// The caller says that the log has all entries below `upto` for good. The pen's safe position is then not below
+/// The caller says that the log has all entries below `upto` for good. The pen's safe place is then not below
 /// `upto`, and not past the list's end.
 ///
 /// Nothing here looks at the log: that the caller's word is true is for the crate that has both the pen and the log.
