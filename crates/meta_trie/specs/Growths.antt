@@ -36,7 +36,9 @@ BegunAt anchor len place table = (m : Node) × (node_at table (take len anchor) 
 
 -- the prefix of an anchor of some length has a node that is right once the anchor is added
 abbrev pub GrownAt : List Anchored → List ℕ → ℕ → Table → Type 0
-GrownAt all anchor n table = (m : Node) × (node_at table (take n anchor) ≡ Some m) × ((leaf : ℕ) → NodeStands (all ++ record { anchor = anchor; leaf = leaf } ∷ []) (take n anchor) m)
+GrownAt all anchor n table =
+    (m : Node) × (node_at table (take n anchor) ≡ Some m)
+    × ((leaf : ℕ) → NodeStands (all ++ record { anchor = anchor; leaf = leaf } ∷ []) (take n anchor) m)
 
 -- no other prefix has another node
 abbrev pub KeepsBut : List ℕ → Table → Table → Type 0

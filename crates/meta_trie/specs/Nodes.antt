@@ -75,7 +75,9 @@ pub record NodeStands (all : List Anchored) (p : List ℕ) (n : Node) : Type 0 w
 -- the greatest next byte below the key's next one
 abbrev pub NextBelow : Node → List ℕ → Option ℕ → Type 0
 NextBelow n rest None = (c : ℕ) (more : List ℕ) → rest ≡ c ∷ more → (d : ℕ) → d < c → has_next n.nexts d ≡ false
-NextBelow n rest (Some d) = (c : ℕ) × (more : List ℕ) × (rest ≡ c ∷ more) × (d < c) × (has_next n.nexts d ≡ true) × ((e : ℕ) → d < e → e < c → has_next n.nexts e ≡ false)
+NextBelow n rest (Some d) =
+    (c : ℕ) × (more : List ℕ) × (rest ≡ c ∷ more) × (d < c) × (has_next n.nexts d ≡ true)
+    × ((e : ℕ) → d < e → e < c → has_next n.nexts e ≡ false)
 
 -- Every prefix of an anchor has a node, and no other string has one; each anchor but the empty one knows the one below it;
 -- and each is there once.

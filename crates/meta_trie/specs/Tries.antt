@@ -65,7 +65,8 @@ IsNew added anchor = (place : ℕ) (a : Anchored) → slice_get (root ∷ added)
 -- `TrieFull`, with the nodes that there are, exactly where there would be more than NODES_MAX with the anchor
 abbrev pub RoomAnswer : {X : Type 0} → Result X TrieError → List Anchored → List ℕ → Type 0
 RoomAnswer (Ok made) added anchor = nodes_of added + nodes_for added anchor ≤ NODES_MAX
-RoomAnswer (Err (errors.TrieFull nodes)) added anchor = (nodes ≡ nodes_of added) × (NODES_MAX < nodes_of added + nodes_for added anchor)
+RoomAnswer (Err (errors.TrieFull nodes)) added anchor =
+    (nodes ≡ nodes_of added) × (NODES_MAX < nodes_of added + nodes_for added anchor)
 RoomAnswer (Err errors.Memory) added anchor = nodes_of added + nodes_for added anchor ≤ NODES_MAX
 
 -- the anchors that were added to the empty one, in the order of adding, and the anchor whose adding is prepared

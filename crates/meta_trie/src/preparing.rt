@@ -86,14 +86,7 @@ fn prepare(
     }
     table.reserve(missing)?;
     leaves.reserve(1)?;
-    let prefixes = prefixes_of(alloc, anchor, site.len)?;
-    let anchor = Vec::from_slice(alloc, anchor)?;
-    Ok(Ready {
-        anchor,
-        len: site.len,
-        previous: site.previous,
-        prefixes,
-    })
+    Ok(copies_at(alloc, anchor, site)?)
 }
 
 /// Where a new anchor stands: how long its longest prefix with a node is, and the place of the greatest anchor below
@@ -119,6 +112,25 @@ fn survey<L: Ledger>(leaves: &[LeafEntry], table: &Table, anchor: &[u8], blank: 
     let len = longest(table, anchor, &mut steps);
     let previous = holder(leaves, table, anchor, &mut steps);
     Site { len, previous }
+}
+
+/// The copies that an anchor needs at its site: that of its own, and those of its prefixes that get nodes.
+fn copies_at(alloc: Global, anchor: &[u8], site: Site) -> Result<Ready, NoMemory>
+    requires within { site.len ≤ length anchor.now }
+    ensures anchor { IfOk result (λ ready. ready.anchor.items ≡ anchor.now) }
+    ensures len { IfOk result (λ ready. ready.len ≡ site.len) }
+    ensures previous { IfOk result (λ ready. ready.previous ≡ site.previous) }
+    ensures made { IfOk result (λ ready.
+        map (λ v. v.items) ready.prefixes.items ≡ fronts_of anchor.now site.len (length anchor.now - site.len)) }
+{
+    let prefixes = prefixes_of(alloc, anchor, site.len)?;
+    let anchor = Vec::from_slice(alloc, anchor)?;
+    Ok(Ready {
+        anchor,
+        len: site.len,
+        previous: site.previous,
+        prefixes,
+    })
 }
 
 /// The prefixes of an anchor that are longer than a length, the shortest first.

@@ -135,8 +135,10 @@ fn random_string(alloc: Global, state: &mut u64) -> Result<Vec<u8>, Fail> {
     *state = state
         .wrapping_mul(6_364_136_223_846_793_005)
         .wrapping_add(1_442_695_040_888_963_407);
-    let mut left = *state >> 30;
-    for _ in 0..left % 16 {
+    let mut left = *state >> 28;
+    let len = left % 16;
+    left /= 4;
+    for _ in 0..len {
         left /= 4;
         bytes.push(match left % 4 {
             0 => 0x00,
@@ -235,12 +237,12 @@ fn add_known(alloc: Global, trie: &mut MetaTrie, known: &Known) -> Result<(), Fa
     Ok(())
 }
 
-/// A trie of up to 2,000 random anchors, and the plain list of them.
+/// A trie of some 2,000 random anchors, and the plain list of them.
 fn random_trie(alloc: Global) -> Result<(MetaTrie, Vec<Known>), Fail> {
     let mut sorted = Vec::new(alloc);
     let mut trie = MetaTrie::make(alloc)?;
     let mut state = 1;
-    for leaf in 1..2_001 {
+    for leaf in 1..2_801 {
         let anchor = random_string(alloc, &mut state)?;
         if add(alloc, &mut trie, &anchor, leaf) == Ok(true) {
             keep(alloc, &mut sorted, &anchor, leaf)?;
@@ -269,7 +271,7 @@ fn falling_trie(alloc: Global, sorted: &[Known]) -> Result<MetaTrie, Fail> {
 fn random_anchors_agree_with_a_sorted_list(rt: HostRuntime) -> Result<(), Fail> {
     let alloc = rt.alloc();
     let (trie, sorted) = random_trie(alloc)?;
-    assert!(rt; sorted.len() > 1_000);
+    assert!(rt; sorted.len() >= 2_000);
     assert!(rt; all_agree(alloc, &trie, &sorted)?);
     let rising = rising_trie(alloc, &sorted)?;
     assert!(rt; all_agree(alloc, &rising, &sorted)?);
