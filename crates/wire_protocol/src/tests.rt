@@ -20,6 +20,21 @@ fn put_of(alloc: Global, key: &[u8], value: &[u8]) -> Result<Request, Fail> {
     })
 }
 
+/// Feeds a decoder at most so many of these bytes, and gives those that it did not take.
+fn feed<'a>(
+    rt: &(impl Abort + AllocGlobal),
+    decoder: &mut Decoder,
+    bytes: &'a [u8],
+    most: usize,
+) -> &'a [u8] {
+    let (piece, _) = bytes.split_at(most.min(bytes.len()));
+    assert!(rt; decoder.taken() < 1 << 20);
+    assert!(rt; piece.len() < 1 << 20);
+    let taken = decoder.feed(piece);
+    let (_, rest) = bytes.split_at(taken);
+    rest
+}
+
 /// What a decoder reads of an input that comes in pieces of this size: requests, and the refusal after them.
 fn read(
     rt: &(impl Abort + AllocGlobal),
@@ -31,11 +46,7 @@ fn read(
     let mut requests = Vec::new(alloc);
     let mut rest = input;
     for _ in 0..input.len() {
-        let (piece, _) = rest.split_at(size.min(rest.len()));
-        assert!(rt; decoder.taken() < 1 << 20);
-        assert!(rt; piece.len() < 1 << 20);
-        let fed = decoder.feed(piece);
-        (_, rest) = rest.split_at(fed);
+        rest = feed(rt, &mut decoder, rest, size);
         match decoder.request(alloc) {
             Ok(Some(request)) => requests.push(request)?,
             Ok(None) => {}
@@ -44,6 +55,79 @@ fn read(
     }
     assert!(rt; rest.is_empty());
     Ok((requests, None))
+}
+
+/// An input in pieces of this size reads as these requests, and nothing is refused.
+fn reads_as(
+    rt: &(impl Abort + AllocGlobal),
+    input: &[u8],
+    size: usize,
+    want: &[Request],
+) -> Result<(), Fail> {
+    let (requests, refusal) = read(rt, input, size)?;
+    assert!(rt; requests.as_slice() == want);
+    assert_eq!(rt; refusal, None);
+    Ok(())
+}
+
+/// An input is refused at this place with this code, however it is cut.
+fn is_refused(
+    rt: &(impl Abort + AllocGlobal),
+    input: &[u8],
+    at: u64,
+    code: u8,
+) -> Result<(), Fail> {
+    for size in [1, 3, 2000] {
+        let (_, refusal) = read(rt, input, size)?;
+        assert_eq!(rt; refusal, Some(WireError::BadMessage { at, code }));
+    }
+    Ok(())
+}
+
+/// A request is spelled so.
+fn asks(rt: &(impl Abort + AllocGlobal), request: &Request, want: &[u8]) -> Result<(), Fail> {
+    let mut bytes = Vec::new(rt.alloc());
+    spell_request(request, &mut bytes)?;
+    assert!(rt; bytes.as_slice() == want);
+    Ok(())
+}
+
+/// A reply is spelled so.
+fn replies(rt: &(impl Abort + AllocGlobal), reply: Reply, want: &[u8]) -> Result<(), Fail> {
+    let mut bytes = Vec::new(rt.alloc());
+    spell_reply(&reply, &mut bytes)?;
+    assert!(rt; bytes.as_slice() == want);
+    Ok(())
+}
+
+/// So many bytes were taken so far, and so many are lacking.
+fn has_taken(rt: &(impl Abort + AllocGlobal), decoder: &Decoder, taken: u64, lacking: usize) {
+    assert_eq!(rt; (decoder.place(), decoder.taken()), (0, taken));
+    assert_eq!(rt; decoder.want(), lacking);
+}
+
+/// The message at hand comes to this.
+fn comes_to(
+    rt: &(impl Abort + AllocGlobal),
+    decoder: &mut Decoder,
+    want: Result<Option<Request>, WireError>,
+) {
+    assert!(rt; decoder.request(rt.alloc()) == want);
+}
+
+/// A source fills what the message lacks with so many bytes, in a call for at most so many.
+fn fills(
+    rt: &(impl Abort + AllocGlobal),
+    decoder: &mut Decoder,
+    source: &mut SteadySource,
+    most: usize,
+    count: usize,
+) {
+    assert!(rt; 0 < decoder.want());
+    assert!(rt; decoder.taken() < 1 << 20);
+    assert!(rt; 0 < most);
+    assert!(rt; most < 1 << 20);
+    assert_eq!(rt; decoder.take_from(source, most), Ok(count));
 }
 
 #[test]
@@ -56,64 +140,69 @@ fn a_script_is_read_however_it_is_cut(rt: HostRuntime) -> Result<(), Fail> {
         Request::Quit,
     ]?;
     for size in [1, 3, 26] {
-        let (requests, refusal) = read(&rt, SCRIPT, size)?;
-        assert_eq!(rt; requests, want, "in pieces of {size}");
-        assert_eq!(rt; refusal, None, "in pieces of {size}");
+        reads_as(&rt, SCRIPT, size, &want)?;
     }
-    let mut spelled = Vec::new(alloc);
-    for request in &want {
-        spell_request(request, &mut spelled)?;
-    }
-    assert_eq!(rt; spelled.as_slice(), SCRIPT);
     Ok(())
+}
+
+#[test]
+fn each_request_has_its_bytes(rt: HostRuntime) -> Result<(), Fail> {
+    let alloc = rt.alloc();
+    let (put, rest) = SCRIPT.split_at(13);
+    let (get, quit) = rest.split_at(8);
+    asks(&rt, &put_of(alloc, b"a", b"1")?, put)?;
+    let key = Key::try_new(alloc, b"a")?;
+    asks(&rt, &Request::Get { key }, get)?;
+    asks(&rt, &Request::Quit, quit)
 }
 
 #[test]
 fn a_refusal_has_the_place_and_the_first_test_that_fails(rt: HostRuntime) -> Result<(), Fail> {
-    let alloc = rt.alloc();
-    let mut long_key = Vec::from_slice(alloc, b"\x00\x00\x04\x09\x01\x04\x01")?;
-    long_key.extend_from_slice(&[0x61; 1025])?;
-    long_key.extend_from_slice(b"\x00\x00\x00\x011")?;
-    for (input, at, code) in [
-        (b"\x00\x01\x04\x07".as_slice(), 0, 1),
-        (b"\x00\x00\x00\x00", 0, 1),
-        (b"\x00\x00\x00\x01\x10", 0, 2),
-        (b"\x00\x00\x00\x01\x04", 0, 2),
-        (b"\x00\x00\x00\x02\x03\x00", 0, 3),
-        (b"\x00\x00\x00\x08\x01\x00\x00\x00\x00\x00\x011", 0, 4),
-        (long_key.as_slice(), 0, 4),
-        (b"\x00\x00\x00\x08\x01\x00\x01a\x00\x01\x00\x00", 0, 5),
-        (
-            b"\x00\x00\x00\x04\x03\x00\x01a\x00\x00\x00\x02\x09\x00",
-            8,
-            7,
-        ),
-    ] {
-        for size in [1, 3, 2000] {
-            let (_, refusal) = read(&rt, input, size)?;
-            let want = Some(WireError::BadMessage { at, code });
-            assert_eq!(rt; refusal, want, "{input:?} in pieces of {size}");
-        }
-    }
-    Ok(())
+    is_refused(&rt, b"\x00\x01\x04\x07", 0, 1)?;
+    is_refused(&rt, b"\x00\x00\x00\x00", 0, 1)?;
+    is_refused(&rt, b"\x00\x00\x00\x01\x10", 0, 2)?;
+    is_refused(&rt, b"\x00\x00\x00\x01\x04", 0, 2)?;
+    is_refused(&rt, b"\x00\x00\x00\x02\x03\x00", 0, 3)?;
+    is_refused(&rt, b"\x00\x00\x00\x08\x01\x00\x00\x00\x00\x00\x011", 0, 4)?;
+    is_refused(&rt, b"\x00\x00\x00\x08\x01\x00\x01a\x00\x01\x00\x00", 0, 5)?;
+    is_refused(
+        &rt,
+        b"\x00\x00\x00\x04\x03\x00\x01a\x00\x00\x00\x02\x09\x00",
+        8,
+        7,
+    )
+}
+
+#[test]
+fn a_key_of_1025_bytes_is_refused(rt: HostRuntime) -> Result<(), Fail> {
+    let mut input = Vec::from_slice(rt.alloc(), b"\x00\x00\x04\x09\x01\x04\x01")?;
+    input.extend_from_slice(&[0x61; 1025])?;
+    input.extend_from_slice(b"\x00\x00\x00\x011")?;
+    is_refused(&rt, &input, 0, 4)
 }
 
 #[test]
 fn a_decoder_wants_what_its_message_lacks(rt: HostRuntime) -> Result<(), Fail> {
-    let alloc = rt.alloc();
-    let mut decoder = Decoder::make(alloc)?;
-    assert_eq!(rt; decoder.want(), 4);
-    assert_eq!(rt; decoder.feed(b"\x00\x00\x00\x09\x01"), 5);
-    assert_eq!(rt; decoder.want(), 8);
-    assert_eq!(rt; decoder.request(alloc), Ok(None));
-    assert_eq!(rt; (decoder.place(), decoder.taken()), (0, 5));
+    let mut decoder = Decoder::make(rt.alloc())?;
+    has_taken(&rt, &decoder, 0, 4);
+    let rest = feed(&rt, &mut decoder, b"\x00\x00\x00\x09\x01", 5);
+    assert!(rt; rest.is_empty());
+    has_taken(&rt, &decoder, 5, 8);
+    comes_to(&rt, &mut decoder, Ok(None));
+    has_taken(&rt, &decoder, 5, 8);
+    Ok(())
+}
 
-    let mut decoder = Decoder::make(alloc)?;
-    assert_eq!(rt; decoder.feed(b"\x00\x01\x04\x07\x01"), 4);
-    assert_eq!(rt; decoder.want(), 0);
+#[test]
+fn a_decoder_takes_nothing_after_a_refused_length(rt: HostRuntime) -> Result<(), Fail> {
+    let mut decoder = Decoder::make(rt.alloc())?;
+    let rest = feed(&rt, &mut decoder, b"\x00\x01\x04\x07\x01", 5);
+    assert!(rt; rest == b"\x01".as_slice());
+    has_taken(&rt, &decoder, 4, 0);
     let refusal = Err(WireError::BadMessage { at: 0, code: 1 });
-    assert_eq!(rt; decoder.request(alloc), refusal);
-    assert_eq!(rt; decoder.request(alloc), refusal);
+    comes_to(&rt, &mut decoder, refusal);
+    let refusal = Err(WireError::BadMessage { at: 0, code: 1 });
+    comes_to(&rt, &mut decoder, refusal);
     Ok(())
 }
 
@@ -122,75 +211,61 @@ fn a_source_fills_what_a_message_lacks(rt: HostRuntime) -> Result<(), Fail> {
     let alloc = rt.alloc();
     let mut decoder = Decoder::make(alloc)?;
     let mut source = SteadySource::new(Vec::from_slice(alloc, b"\x00\x00\x00\x02\x09\x00\x00")?);
-    assert_eq!(rt; decoder.take_from(&mut source, 3), Ok(3));
-    assert_eq!(rt; decoder.want(), 1);
-    assert_eq!(rt; decoder.take_from(&mut source, 100), Ok(1));
-    assert_eq!(rt; decoder.want(), 2);
-    assert_eq!(rt; decoder.take_from(&mut source, 100), Ok(2));
-    assert_eq!(rt; source.remaining(), b"\x00".as_slice());
+    fills(&rt, &mut decoder, &mut source, 3, 3);
+    has_taken(&rt, &decoder, 3, 1);
+    fills(&rt, &mut decoder, &mut source, 100, 1);
+    has_taken(&rt, &decoder, 4, 2);
+    fills(&rt, &mut decoder, &mut source, 100, 2);
+    assert!(rt; source.remaining() == b"\x00".as_slice());
     let refusal = Err(WireError::BadMessage { at: 0, code: 7 });
-    assert_eq!(rt; decoder.request(alloc), refusal);
+    comes_to(&rt, &mut decoder, refusal);
     Ok(())
 }
 
+/// Pieces, one after the other.
+fn concat(alloc: Global, pieces: &[&[u8]]) -> Result<Vec<u8>, Fail> {
+    let mut all = Vec::new(alloc);
+    for piece in pieces {
+        all.extend_from_slice(piece)?;
+    }
+    Ok(all)
+}
+
 #[test]
-fn the_largest_row_is_spelled_and_read(rt: HostRuntime) -> Result<(), Fail> {
+fn the_largest_put_is_spelled_and_read(rt: HostRuntime) -> Result<(), Fail> {
     let alloc = rt.alloc();
     let key = Vec::from_elem(alloc, 0x6B, 1024)?;
-    let value = Vec::from_elem(alloc, 0x76, 65535)?;
+    let value = Vec::from_elem(alloc, 0x76, 65_535)?;
     let put = put_of(alloc, &key, &value)?;
-    let mut spelled = Vec::new(alloc);
-    spell_request(&put, &mut spelled)?;
-    let mut want = Vec::from_slice(alloc, b"\x00\x01\x04\x06\x01\x04\x00")?;
-    want.extend_from_slice(&key)?;
-    want.extend_from_slice(b"\x00\x00\xFF\xFF")?;
-    want.extend_from_slice(&value)?;
-    assert!(rt; spelled == want);
-    let (requests, refusal) = read(&rt, &want, 66570)?;
-    assert!(rt; requests == vec![in alloc; put]?);
-    assert_eq!(rt; refusal, None);
+    let head = b"\x00\x01\x04\x06\x01\x04\x00";
+    let want = concat(alloc, &[head, &key, b"\x00\x00\xFF\xFF", &value])?;
+    asks(&rt, &put, &want)?;
+    reads_as(&rt, &want, 66_570, &vec![in alloc; put]?)
+}
 
-    let mut reply = Vec::new(alloc);
-    let value = Value::try_new(alloc, &value)?;
-    spell_reply(&Reply::Value { front: 1, value }, &mut reply)?;
-    assert_eq!(rt; reply.len(), 65552);
-    let (front, _) = reply.split_at(17);
-    let want = b"\x00\x01\x00\x0C\x82\x00\x00\x00\x00\x00\x00\x00\x01\x00\x00\xFF\xFF";
-    assert_eq!(rt; front, want.as_slice());
-    Ok(())
+#[test]
+fn the_largest_reply_is_spelled(rt: HostRuntime) -> Result<(), Fail> {
+    let alloc = rt.alloc();
+    let bytes = Vec::from_elem(alloc, 0x76, 65_535)?;
+    let head = b"\x00\x01\x00\x0C\x82\x00\x00\x00\x00\x00\x00\x00\x01\x00\x00\xFF\xFF";
+    let want = concat(alloc, &[head, &bytes])?;
+    let value = Value::try_new(alloc, &bytes)?;
+    replies(&rt, Reply::Value { front: 1, value }, &want)
 }
 
 #[test]
 fn each_reply_has_its_bytes(rt: HostRuntime) -> Result<(), Fail> {
-    let alloc = rt.alloc();
-    let value = Value::try_new(alloc, b"1")?;
-    for (reply, want) in [
-        (
-            Reply::Done { number: 0 },
-            b"\x00\x00\x00\x09\x81\x00\x00\x00\x00\x00\x00\x00\x00".as_slice(),
-        ),
-        (
-            Reply::Value { front: 1, value },
-            b"\x00\x00\x00\x0E\x82\x00\x00\x00\x00\x00\x00\x00\x01\x00\x00\x00\x011",
-        ),
-        (
-            Reply::Absent { front: 1 },
-            b"\x00\x00\x00\x09\x83\x00\x00\x00\x00\x00\x00\x00\x01",
-        ),
-        (Reply::Bye, b"\x00\x00\x00\x01\x89"),
-        (
-            Reply::BadMessage { at: 29, code: 6 },
-            b"\x00\x00\x00\x0A\xE1\x00\x00\x00\x00\x00\x00\x00\x1D\x06",
-        ),
-        (
-            Reply::DeviceFault { device: 3 },
-            b"\x00\x00\x00\x02\xE4\x03",
-        ),
-        (Reply::OutOfMemory, b"\x00\x00\x00\x01\xE5"),
-    ] {
-        let mut bytes = Vec::new(alloc);
-        spell_reply(&reply, &mut bytes)?;
-        assert_eq!(rt; bytes.as_slice(), want, "{reply:?}");
-    }
-    Ok(())
+    let value = Value::try_new(rt.alloc(), b"1")?;
+    let done = b"\x00\x00\x00\x09\x81\x00\x00\x00\x00\x00\x00\x00\x00";
+    replies(&rt, Reply::Done { number: 0 }, done)?;
+    let found = b"\x00\x00\x00\x0E\x82\x00\x00\x00\x00\x00\x00\x00\x01\x00\x00\x00\x011";
+    replies(&rt, Reply::Value { front: 1, value }, found)?;
+    let absent = b"\x00\x00\x00\x09\x83\x00\x00\x00\x00\x00\x00\x00\x01";
+    replies(&rt, Reply::Absent { front: 1 }, absent)?;
+    replies(&rt, Reply::Bye, b"\x00\x00\x00\x01\x89")?;
+    let refused = b"\x00\x00\x00\x0A\xE1\x00\x00\x00\x00\x00\x00\x00\x1D\x06";
+    replies(&rt, Reply::BadMessage { at: 29, code: 6 }, refused)?;
+    let fault = b"\x00\x00\x00\x02\xE4\x03";
+    replies(&rt, Reply::DeviceFault { device: 3 }, fault)?;
+    replies(&rt, Reply::OutOfMemory, b"\x00\x00\x00\x01\xE5")
 }
