@@ -1,7 +1,7 @@
 -- What the search for a key's anchor knows at each of its ends. To know: `found-child`, `found-own`, `found-before`.
 use Rattle.std.proofs.Common.{◌≡◌, ℕ, zero, suc, ◌<◌, ◌≤◌, true, false, List, [], ◌∷◌, ◌++◌, length, take, drop, get_or, refl, sym, ap, ◌∙◌, subst, arith, ◌⊎◌, inl, inr}
 use Rattle.std.specs.Prelude.{Option, Some, None, is_some, slice_get, slice_index}
-use Rattle.std.proofs.lemmas.List.{append_assoc, append-nil, length-append}
+use Rattle.std.proofs.lemmas.List.{append_assoc, append-nil}
 use Rattle.meta_trie.specs.Tries.{Anchored, root, cover, deepest}
 use Rattle.meta_trie.specs.declared.node.Node.{Node}
 use Rattle.meta_trie.specs.declared.leaf_entry.LeafEntry.{LeafEntry}

@@ -1,5 +1,5 @@
 -- What is kept for the next adding. To know: `may_be-same`, `fits-ready`, `ready-taken`.
-use Rattle.std.proofs.Common.{◌≡◌, ℕ, ◌+◌, ◌-◌, ◌<◌, ◌≤◌, true, List, length, take, refl, sym, ap, ◌∙◌, subst, arith}
+use Rattle.std.proofs.Common.{◌≡◌, ℕ, ◌+◌, ◌-◌, ◌≤◌, true, List, length, take, refl, sym, ap, ◌∙◌, subst, arith}
 use Rattle.std.specs.Prelude.{Option, Some, None, is_some}
 use Rattle.rdb_base.proofs.PlaceLemmas.{some_injective}
 use Rattle.meta_trie.specs.declared.leaf_entry.LeafEntry.{LeafEntry}
