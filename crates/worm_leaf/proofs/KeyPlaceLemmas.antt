@@ -1,5 +1,5 @@
 -- The place of a key among rising pairs. To know: `change_at-here`, `change_at-absent`, `with_pair-here`, `with_pair-absent`.
-use Rattle.std.proofs.Common.{◌≡◌, ℕ, zero, suc, ◌<◌, ◌≤◌, Bool, true, false, List, [], ◌∷◌, ◌++◌, length, take, drop, get_or, set, refl, sym, ap, ◌∙◌, arith}
+use Rattle.std.proofs.Common.{◌≡◌, ℕ, zero, suc, ◌<◌, true, false, List, [], ◌∷◌, ◌++◌, length, take, drop, get_or, set, refl, ap, ◌∙◌, arith}
 use Rattle.std.specs.Prelude.{Some, None}
 use Rattle.std.specs.Ordering.{is_lt, is_eq}
 use Rattle.std.specs.declared.cmp.Ordering.{Ordering}
@@ -7,7 +7,6 @@ use Rattle.std.specs.declared.cmp.Ordering.TheVariants.{Less, Equal, Greater}
 use Rattle.rdb_base.specs.Order.{key_cmp}
 use Rattle.rdb_base.specs.Runs.{IsRun, change_at}
 use Rattle.rdb_base.specs.Levels.{with_pair}
-use Rattle.rdb_base.specs.Halvings.{IsTurn}
 use Rattle.rdb_base.specs.Searches.{IsPlaceOf}
 use Rattle.rdb_base.specs.declared.pair.Pair.{Pair}
 use Rattle.rdb_base.proofs.KeyOrder.{turned_less, turned_greater, turned_equal, less_from_test, equal_from_test}

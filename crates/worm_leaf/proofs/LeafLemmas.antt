@@ -1,8 +1,8 @@
--- The pairs of a leaf after a put and after a split. To know: `leaf-put`, `leaf-left`, `leaf-right`, `anchor-inside`.
-use Rattle.std.proofs.Common.{◌≡◌, ℕ, zero, suc, ◌+◌, ◌-◌, ◌<◌, ◌≤◌, Bool, true, false, get_or, ◌⊎◌, inl, inr, List, [], ◌∷◌, ◌++◌, length, take, drop, refl, sym, ap, ◌∙◌, subst, arith}
+-- The pairs of a leaf after a put and after a split. To know: `leaf-put`, `leaf-left`, `leaf-right`, `split-inside`, `PartsAt-one`.
+use Rattle.std.proofs.Common.{◌≡◌, ℕ, zero, suc, ◌+◌, ◌-◌, ◌<◌, ◌≤◌, Bool, true, false, get_or, ◌⊎◌, inl, inr, List, [], ◌∷◌, length, take, drop, refl, sym, ap, ◌∙◌, subst, arith}
 use Rattle.std.specs.Prelude.{Option, Some, None, slice_get, if◌then◌else◌}
 use Rattle.std.specs.List.{AllByRecursion}
-use Rattle.std.specs.Ordering.{nat_cmp, ordering_then, is_lt, is_gt}
+use Rattle.std.specs.Ordering.{ordering_then, is_lt, is_gt}
 use Rattle.std.specs.Cmp.{nat_cmp_is}
 use Rattle.std.specs.declared.cmp.Ordering.TheVariants.{Less, Equal}
 use Rattle.std.proofs.lemmas.List.{take-append-drop}
@@ -13,12 +13,13 @@ use Rattle.rdb_base.specs.Ranges.{in_range, IsBelow, NotBelow}
 use Rattle.rdb_base.specs.declared.pair.Pair.{Pair}
 use Rattle.rdb_base.proofs.KeyOrder.{total}
 use Rattle.rdb_base.proofs.Lists.{all-append, all-filter}
-use Rattle.rdb_base.proofs.OrderLemmas.{le_lt, lt_not, le_le}
+use Rattle.rdb_base.proofs.OrderLemmas.{le_lt, lt_not}
 use Rattle.rdb_base.proofs.RangeLemmas.{range_from, range_to}
 use Rattle.rdb_base.proofs.RunLemmas.{IsRun-with_pair, IsRun-front, IsRun-back}
-use Rattle.worm_leaf.specs.Anchors.{IsAnchor}
+use Rattle.worm_leaf.proofs.PartingLemmas.{IsAnchor-one}
+use Rattle.worm_leaf.specs.Anchors.{IsAnchor, PartsAt}
 use Rattle.worm_leaf.specs.Leaves.{LeafState, IsLeaf, AreCovered, covers}
-use Rattle.worm_leaf.specs.declared.limits.TheConstants.{LEAF_PAIRS_MAX}
+use Rattle.worm_leaf.specs.declared.limits.TheConstants.{LEAF_PAIRS_MAX, LEAF_PAIRS_KEPT}
 
 -- with a pair in its place
 covered-with_pair : (leaf : LeafState) (pairs : List Pair) (p : Pair) → AreCovered leaf pairs → covers leaf p.key ≡ true → AreCovered leaf (with_pair pairs p)
@@ -135,7 +136,7 @@ below-bound None key at le below = tt
 below-bound (Some high) key at le below = le_lt at key high le below
 
 -- the anchor is above the low bound, and in the range
-pub anchor-inside : (leaf : LeafState) (n m : ℕ) (last first : Pair) (anchor : List ℕ) → IsLeaf leaf → slice_get leaf.pairs n ≡ Some last → slice_get leaf.pairs m ≡ Some first
+anchor-inside : (leaf : LeafState) (n m : ℕ) (last first : Pair) (anchor : List ℕ) → IsLeaf leaf → slice_get leaf.pairs n ≡ Some last → slice_get leaf.pairs m ≡ Some first
     → IsAnchor last.key first.key anchor → (key_cmp leaf.low anchor ≡ Less) × (covers leaf anchor ≡ true)
 anchor-inside leaf n m last first anchor is at next parts =
     let P : Pair → Type 0 = λ (p : Pair). covers leaf p.key ≡ true in
@@ -182,3 +183,22 @@ pub length-put : (there : Bool) (old new : ℕ) → new ≡ (if there then old e
 length-put true old new e le room = omega arith
 length-put false old new e le (inl lt) = omega arith
 length-put false old new e le (inr f) = absurd cc
+
+-- ---- the anchor of a full leaf
+
+-- it is above the low bound, and in the range
+pub split-inside : (leaf : LeafState) (anchor : List ℕ) → IsLeaf leaf → length leaf.pairs ≡ LEAF_PAIRS_MAX → PartsAt leaf.pairs LEAF_PAIRS_KEPT anchor
+    → (key_cmp leaf.low anchor ≡ Less) × (covers leaf anchor ≡ true)
+split-inside leaf anchor is full parts =
+    let len : length leaf.pairs ≡ 64 = full in
+    let here : PartsAt leaf.pairs 32 anchor = parts in
+    let last : (p : Pair) × (slice_get leaf.pairs 31 ≡ Some p) = some_at leaf.pairs 31 (omega (arith, len)) in
+    let first : (p : Pair) × (slice_get leaf.pairs 32 ≡ Some p) = some_at leaf.pairs 32 (omega (arith, len)) in
+    anchor-inside leaf 31 32 last.0 first.0 anchor is last.1 first.1 (here last.0 first.0 last.1 first.1)
+
+-- there is one alone
+pub PartsAt-one : (pairs : List Pair) (place : ℕ) (one other : List ℕ) → place < length pairs → PartsAt pairs place one → PartsAt pairs place other → one ≡ other
+PartsAt-one pairs place one other lt is are =
+    let last : (p : Pair) × (slice_get pairs (place - 1) ≡ Some p) = some_at pairs (place - 1) (omega (arith, lt)) in
+    let first : (p : Pair) × (slice_get pairs place ≡ Some p) = some_at pairs place lt in
+    IsAnchor-one last.0.key first.0.key one other (is last.0 first.0 last.1 first.1) (are last.0 first.0 last.1 first.1)

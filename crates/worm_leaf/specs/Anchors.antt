@@ -12,4 +12,6 @@ pub record IsAnchor (last first anchor : List ℕ) : Type 0 where
 
 -- the anchor of the pairs from a place on: it parts the key there from the key before it
 abbrev pub PartsAt : List Pair → ℕ → List ℕ → Type 0
-PartsAt pairs place anchor = (last first : Pair) → slice_get pairs (place - 1) ≡ Some last → slice_get pairs place ≡ Some first → IsAnchor last.key first.key anchor
+PartsAt pairs place anchor =
+    (last first : Pair) → slice_get pairs (place - 1) ≡ Some last → slice_get pairs place ≡ Some first
+    → IsAnchor last.key first.key anchor

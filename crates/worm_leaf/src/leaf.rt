@@ -133,6 +133,15 @@ impl Leaf {
         put_in(&mut self.pairs, pair)
     }
 
+    /// The anchor that a split of this full leaf gives, for who makes room for it before the split.
+    pub fn split_anchor(&self, anchor: &mut Anchor)
+        requires full { length self.now.pairs ≡ LEAF_PAIRS_MAX }
+        ensures anchor { PartsAt self.now.pairs LEAF_PAIRS_KEPT anchor.new }
+        ensures inside { (key_cmp self.now.low anchor.new ≡ Less) × (covers self.now anchor.new ≡ true) }
+    {
+        part_at(self.pairs.as_slice(), LEAF_PAIRS_KEPT, anchor);
+    }
+
     /// Splits a full leaf. `LEAF_PAIRS_KEPT` pairs stay, and the others go into an unused leaf. The anchor is the bound
     /// between both: the shortest prefix of the right one's first key that is above the left one's last key. It is
     /// above the low bound, and in the range.

@@ -1,6 +1,7 @@
 //! Worked splits, and each public call once with ample memory.
-ghost use Rattle.std.specs.Prelude.{◌≡◌, ◌<◌};
-ghost use Rattle.worm_leaf.specs.Leaves.{covers};
+ghost use Rattle.std.specs.Prelude.{◌≡◌, ◌<◌, length};
+ghost use Rattle.worm_leaf.specs.Leaves.{covers, unused};
+ghost use Rattle.worm_leaf.specs.declared.limits.TheConstants.{LEAF_PAIRS_MAX};
 
 use crate::{Anchor, Leaf};
 use rdb_base::{Change, Key, Pair, Steps, Value};
@@ -31,7 +32,8 @@ fn numbered(alloc: Global, prefix: &[u8], number: u8) -> Result<Key, Fail>
     requires { number < 100 }
 {
     let mut bytes = Vec::from_slice(alloc, prefix)?;
-    bytes.extend_from_slice(&[b'0' + number / 10, b'0' + number % 10])?;
+    bytes.push(b'0' + number / 10)?;
+    bytes.push(b'0' + number % 10)?;
     Ok(Key::try_new(alloc, bytes.as_slice())?)
 }
 
@@ -55,6 +57,23 @@ fn put_32(alloc: Global, leaf: &mut Leaf, prefix: &[u8]) -> Result<(), Fail> {
     Ok(())
 }
 
+/// Whether a full leaf tells this as the anchor of its split.
+fn tells_anchor(leaf: &Leaf, anchor: &mut Anchor, want: &[u8]) -> bool
+    requires { length leaf.now.pairs ≡ LEAF_PAIRS_MAX }
+{
+    leaf.split_anchor(anchor);
+    anchor.as_bytes() == want
+}
+
+/// Splits a full leaf. Whether its anchor is this.
+fn splits_at(leaf: &mut Leaf, right: &mut Leaf, anchor: &mut Anchor, want: &[u8]) -> bool
+    requires full { length leaf.old.pairs ≡ LEAF_PAIRS_MAX }
+    requires unused { right.old ≡ unused }
+{
+    leaf.split_into(right, anchor);
+    anchor.as_bytes() == want
+}
+
 /// Splits a leaf that is full, where its anchor is to be this one. The right leaf is the answer.
 fn split_at(alloc: Global, leaf: &mut Leaf, want: &[u8]) -> Result<Leaf, Fail> {
     let mut right = Leaf::make(alloc)?;
@@ -62,11 +81,12 @@ fn split_at(alloc: Global, leaf: &mut Leaf, want: &[u8]) -> Result<Leaf, Fail> {
     if !leaf.is_full() {
         return Err("not full")?;
     }
-    leaf.split_into(&mut right, &mut anchor);
-    if anchor.as_bytes() != want {
-        return Err("another anchor")?;
+    let told = tells_anchor(leaf, &mut anchor, want);
+    if splits_at(leaf, &mut right, &mut anchor, want) && told {
+        Ok(right)
+    } else {
+        Err("another anchor")?
     }
-    Ok(right)
 }
 
 /// Whether the first and the last key of a leaf are these.
@@ -104,12 +124,24 @@ fn full_leaves_split_at_ab_and_abc(rt: HostRuntime) -> Result<(), Fail> {
         (b"abc", 2),
         (b"abd", 2),
     ] {
-        let key = Key::try_new(alloc, bytes)?;
-        for (place, leaf) in leaves.iter().enumerate() {
-            assert_eq!(rt; covered(leaf, &key), place == want);
-        }
+        assert!(rt; covers_alone(&leaves, &Key::try_new(alloc, bytes)?, want));
     }
     Ok(())
+}
+
+/// Whether of these leaves the one at a place covers a key, and no other one.
+fn covers_alone(leaves: &[Leaf; 3], key: &Key, want: usize) -> bool {
+    for (place, leaf) in leaves.iter().enumerate() {
+        if covered(leaf, key) != (place == want) {
+            return false;
+        }
+    }
+    true
+}
+
+/// Whether a leaf has a key, and another leaf does not.
+fn is_in_one(there: &Leaf, other: &Leaf, key: &Key) -> bool {
+    there.find(key).is_some() && other.find(key).is_none()
 }
 
 #[test]
@@ -124,9 +156,32 @@ fn k00_to_k63_split_at_k32(rt: HostRuntime) -> Result<(), Fail> {
     let right = split_at(alloc, &mut left, b"k32")?;
     assert!(rt; has_ends(&left, b"k00", b"k31"));
     assert!(rt; has_ends(&right, b"k32", b"k63"));
-    assert!(rt; left.is_first() && !left.is_last() && left.meets(&right));
-    assert!(rt; !right.is_first() && right.is_last() && !right.meets(&left));
+    assert!(rt; are_halves(&left, &right));
+    assert!(rt; is_in_one(&left, &right, &numbered(alloc, b"k", 31)?));
+    assert!(rt; is_in_one(&right, &left, &numbered(alloc, b"k", 32)?));
     Ok(())
+}
+
+/// Whether two leaves part all keys, the left one first.
+fn are_halves(left: &Leaf, right: &Leaf) -> bool {
+    let begins = left.is_first() && !left.is_last() && left.meets(right);
+    begins && !right.is_first() && right.is_last() && !right.meets(left)
+}
+
+/// Whether a leaf finds this at a key.
+fn finds(leaf: &Leaf, key: &Key, want: Option<&Change>) -> bool {
+    leaf.find(key) == want
+}
+
+/// Puts a key with a value of one byte. Whether this was the old change.
+fn replaces(
+    alloc: Global,
+    leaf: &mut Leaf,
+    key: Key,
+    value: u8,
+    want: Option<&Change>,
+) -> Result<bool, Fail> {
+    Ok(put(alloc, leaf, key, value)?.as_ref() == want)
 }
 
 #[test]
@@ -135,11 +190,11 @@ fn a_put_answers_the_old_change(rt: HostRuntime) -> Result<(), Fail> {
     let mut leaf = Leaf::make(alloc)?;
     let one = Change::Put(Value::try_new(alloc, b"1")?);
     let key = numbered(alloc, b"k", 7)?;
-    assert_eq!(rt; leaf.find(&key), None);
     let copy = key.try_copy(alloc)?;
-    assert_eq!(rt; put(alloc, &mut leaf, copy, b'1')?, None);
-    assert_eq!(rt; leaf.find(&key), Some(&one));
-    assert_eq!(rt; put(alloc, &mut leaf, key, b'2')?, Some(one));
+    assert!(rt; finds(&leaf, &key, None));
+    assert!(rt; replaces(alloc, &mut leaf, copy, b'1', None)?);
+    assert!(rt; finds(&leaf, &key, Some(&one)));
+    assert!(rt; replaces(alloc, &mut leaf, key, b'2', Some(&one))?);
     Ok(())
 }
 

@@ -1,5 +1,4 @@
 use Rattle.std.proofs.Common.{◌≡◌, ◌-◌, List, ℕ, get_or, take, sym, ap, ◌∙◌, subst, arith}
-use Rattle.std.specs.declared.cmp.Ordering.TheVariants.{Less}
 use Rattle.rdb_base.specs.Order.{key_cmp}
 use Rattle.rdb_base.specs.declared.pair.Pair.{Pair}
 use Rattle.worm_leaf.specs.Anchors.{IsAnchor}

@@ -1,8 +1,7 @@
 use Rattle.std.proofs.Common.{◌≡◌, ◌+◌, ℕ, List, true, false, get_or, set, take, drop, sym, ap, ◌∙◌, subst, ◌⊎◌, inl, inr}
-use Rattle.std.specs.Prelude.{◌++◌, ◌∷◌, Some, None, Result, is_ok, is_some, if◌then◌else◌}
+use Rattle.std.specs.Prelude.{◌++◌, ◌∷◌, Some, None, is_ok, is_some, if◌then◌else◌}
 use Rattle.rdb_base.specs.Runs.{change_at}
 use Rattle.rdb_base.specs.Searches.{IsPlaceOf}
-use Rattle.rdb_base.specs.declared.change.Change.{Change}
 use Rattle.rdb_base.specs.declared.pair.Pair.{Pair}
 use Rattle.rdb_base.proofs.KeyOrder.{same_key}
 use Rattle.worm_leaf.specs.Leaves.{is_key_at}

@@ -1,4 +1,4 @@
-use Rattle.std.proofs.Common.{◌≡◌, List, sym, ◌∙◌, ap, subst}
+use Rattle.std.proofs.Common.{List, sym, ◌∙◌, ap, subst}
 use Rattle.rdb_base.specs.Runs.{IsRun, change_at}
 use Rattle.rdb_base.specs.declared.pair.Pair.{Pair}
 use Rattle.worm_leaf.specs.Leaves.{LeafState}

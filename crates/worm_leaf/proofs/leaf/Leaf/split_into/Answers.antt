@@ -1,4 +1,4 @@
-use Rattle.std.proofs.Common.{◌≡◌, ◌<◌, ◌≤◌, true, List, ℕ, length, take, drop, sym, ap, ◌∙◌, subst, arith}
+use Rattle.std.proofs.Common.{◌≡◌, true, List, ℕ, length, take, drop, sym, ap, ◌∙◌, subst, arith}
 use Rattle.std.specs.Prelude.{Some, slice_get}
 use Rattle.std.proofs.lemmas.List.{length-take, length-drop}
 use Rattle.std.specs.declared.cmp.Ordering.TheVariants.{Less}
@@ -6,7 +6,7 @@ use Rattle.rdb_base.specs.Order.{key_cmp}
 use Rattle.rdb_base.specs.declared.pair.Pair.{Pair}
 use Rattle.worm_leaf.specs.Anchors.{IsAnchor, PartsAt}
 use Rattle.worm_leaf.specs.Leaves.{LeafState, IsLeaf, bound, covers}
-use Rattle.worm_leaf.proofs.LeafLemmas.{leaf-left, leaf-right, some_at, anchor-inside}
+use Rattle.worm_leaf.proofs.LeafLemmas.{leaf-left, leaf-right, some_at, split-inside}
 use Rattle.worm_leaf.proofs.leaf.Leaf.split_into.Goals as goal
 
 pub invariant_of-self : goal.invariant_of-self
@@ -52,12 +52,7 @@ returns-clause-anchor c =
 
 pub returns-clause-inside : goal.returns-clause-inside
 returns-clause-inside c =
-    let pairs = c.self.inside.pairs.items in
     let anchor = c.part_at.new.anchor in
-    let full : length pairs ≡ 64 = ap (λ (leaf : LeafState). length leaf.pairs) c.self.view_is ∙ c.requires.full in
-    let parts : PartsAt pairs 32 anchor = subst (λ (run : List Pair). PartsAt run 32 anchor) c.as_slice.ensures.value c.part_at.ensures in
-    let last : (p : Pair) × (slice_get pairs 31 ≡ Some p) = some_at pairs 31 (omega (arith, full)) in
-    let first : (p : Pair) × (slice_get pairs 32 ≡ Some p) = some_at pairs 32 (omega (arith, full)) in
-    let leaf : LeafState = record { low = c.self.inside.low; high = bound c.self.inside.bounded c.self.inside.high; pairs = pairs } in
     subst (λ (old : LeafState). (key_cmp old.low anchor ≡ Less) × (covers old anchor ≡ true)) c.self.view_is
-    (anchor-inside leaf 31 32 last.0 first.0 anchor c.self.invariant.0 last.1 first.1 (parts last.0 first.0 last.1 first.1))
+    (split-inside _ anchor c.self.invariant.0 (ap (λ (old : LeafState). length old.pairs) c.self.view_is ∙ c.requires.full)
+    (subst (λ (run : List Pair). PartsAt run 32 anchor) c.as_slice.ensures.value c.part_at.ensures))
