@@ -2,7 +2,7 @@ ghost use Rattle.std.specs.Prelude.{◌≡◌, ◌≤◌, IfOk};
 ghost use Rattle.disk_model.specs.Causes.{CauseOf};
 ghost use Rattle.disk_model.specs.declared.limits.TheConstants.{SHELF};
 
-use crate::folder::{Folder, Unkept};
+use crate::folder::Folder;
 use crate::names::{shelf_name, shelf_number};
 use crate::reading::read_full_at;
 use disk_model::{DeviceError, FaultBook, SHELF, Shelf};
@@ -43,15 +43,17 @@ impl<'a, R: Files<File = File> + AllocGlobal + Clone + Drop> FileShelf<'a, R> {
         })
     }
 
-    fn store(&self, alloc: Global, number: u64, bytes: &[u8]) -> io::Result<()> {
+    fn store(&mut self, alloc: Global, number: u64, bytes: &[u8]) -> io::Result<()>
+        ensures book { self.new ≡ self.old }
+    {
         let path = self
             .folder
             .path_of(alloc, shelf_name(alloc, number)?.as_str())?;
-        let (file, unkept) = self.folder.make_file(path.as_str())?;
+        let file = self.folder.make_file(path.as_str())?;
         file.set_len(0)?;
         file.write_all_at(bytes, 0)?;
         file.sync_data()?;
-        self.folder.keep(unkept)
+        self.folder.keep()
     }
 
     fn load(&self, alloc: Global, number: u64) -> io::Result<Option<Vec<u8>>> {

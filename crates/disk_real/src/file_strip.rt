@@ -1,7 +1,7 @@
 ghost use Rattle.std.specs.Prelude.{◌≡◌, ◌≤◌, ◌<◌, ◌+◌, ◌^◌, IfOk, length, true};
 ghost use Rattle.disk_model.specs.declared.limits.TheConstants.{DEVICE_MAX};
 
-use crate::folder::{Folder, Unkept};
+use crate::folder::Folder;
 use crate::holding::Holding;
 use crate::opening::{Opened, open_present};
 use crate::reading::read_full_at;
@@ -15,15 +15,16 @@ use std::rt::Files;
 
 /// A file of a folder as a strip. Contracts see the book of its failures, and none of its bytes.
 ///
-/// An absent file reads as empty. The first write makes it, with its folder; the first sync after that syncs the
-/// folder, too. One handle is kept open. A write is one `pwrite` where the system takes it whole, a sync one
-/// `fdatasync`. Calls that a signal interrupts go on.
+/// An absent file reads as empty. The first write makes it, with its folder. The first sync of the file syncs the
+/// folder, too, for the file may be new. One handle is kept open. A write is one `pwrite` where the system takes it
+/// whole, a sync one `fdatasync`. Calls that a signal interrupts go on.
 #[derive(Drop)]
 pub struct FileStrip<'a, R> {
     folder: Folder<'a, R>,
     path: String,
     opened: Opened,
-    unkept: Unkept,
+    // Whether the folder was synced since the file was opened.
+    named: bool,
     holding: Holding,
     book: FaultBook,
 }
@@ -66,7 +67,7 @@ impl<'a, R: Files<File = File>> FileStrip<'a, R> {
             path: folder.path_of(alloc, name)?,
             folder,
             opened: Opened::Unknown,
-            unkept: Unkept::Nothing,
+            named: false,
             holding,
             book: FaultBook::new(alloc, device)?,
         })
@@ -122,8 +123,7 @@ impl<'a, R: Files<File = File>> FileStrip<'a, R> {
         match self.opened {
             Opened::There(_) => Ok(()),
             _ => {
-                let (file, unkept) = self.folder.make_file(self.path.as_str())?;
-                self.unkept = unkept;
+                let file = self.folder.make_file(self.path.as_str())?;
                 if self.holding.is_alone() {
                     lock(&file)?;
                 }
@@ -153,15 +153,17 @@ impl<'a, R: Files<File = File>> FileStrip<'a, R> {
         }
     }
 
-    /// Keeps the file's bytes, and then its name where it was made. An absent file has nothing to keep.
+    /// Keeps the file's bytes, and the first time its name. An absent file has nothing to keep.
     fn keep(&mut self) -> io::Result<()>
         ensures book { self.new ≡ self.old }
     {
         self.open()?;
         if let Opened::There(file) = &self.opened {
             file.sync_data()?;
-            self.folder.keep(self.unkept)?;
-            self.unkept = Unkept::Nothing;
+            if !self.named {
+                self.folder.keep()?;
+                self.named = true;
+            }
         }
         Ok(())
     }

@@ -4,21 +4,13 @@ use std::fs::{self, File, OpenFile};
 use std::io::{self, ErrorKind};
 use std::rt::Files;
 
-/// What the folder has to keep yet, before a synced file is there after a crash.
-#[derive(Clone, Copy, Debug, PartialEq, Eq)]
-pub(crate) enum Unkept {
-    Nothing,
-    /// The name of a file that was made.
-    Name,
-    /// That name, and the name of the folder itself, which was made for it.
-    NameAndFolder,
-}
-
 /// A folder of the system by its path. It need not be there.
 #[derive(Drop)]
 pub(crate) struct Folder<'a, R> {
     rt: &'a R,
     path: String,
+    // Whether the folder was made here, and its parent was not synced since.
+    is_new: bool,
 }
 
 impl<'a, R: Files<File = File>> Folder<'a, R> {
@@ -26,6 +18,7 @@ impl<'a, R: Files<File = File>> Folder<'a, R> {
         Ok(Folder {
             rt,
             path: String::from_str(alloc, path)?,
+            is_new: false,
         })
     }
 
@@ -46,34 +39,33 @@ impl<'a, R: Files<File = File>> Folder<'a, R> {
     }
 
     /// Opens a file of this folder. Where it is absent it is made, and so is the folder, but not the folder's parent.
-    pub(crate) fn make_file(&self, path: &str) -> io::Result<(File, Unkept)> {
+    pub(crate) fn make_file(&mut self, path: &str) -> io::Result<File> {
         match open_or_make(self.rt, path) {
-            Ok(file) => Ok((file, Unkept::Name)),
+            Ok(file) => Ok(file),
             Err(error) => {
                 if error.kind() != ErrorKind::NotFound {
                     return Err(error);
                 }
                 fs::create_dir(self.rt, self.path.as_str())?;
-                let file = open_or_make(self.rt, path)?;
-                Ok((file, Unkept::NameAndFolder))
+                self.is_new = true;
+                open_or_make(self.rt, path)
             }
         }
     }
 
-    /// Keeps the names that were made in the folder, and its own.
-    pub(crate) fn keep(&self, unkept: Unkept) -> io::Result<()> {
-        match unkept {
-            Unkept::Nothing => Ok(()),
-            Unkept::Name => sync_folder(self.rt, self.path.as_str()),
-            Unkept::NameAndFolder => {
-                sync_folder(self.rt, self.path.as_str())?;
-                sync_folder(self.rt, parent_of(self.path.as_str()))
-            }
+    /// Syncs the folder: then the names of its files outlast a crash. A folder that was made here has a name of its own
+    /// to keep, so its parent is synced, too.
+    pub(crate) fn keep(&mut self) -> io::Result<()> {
+        sync_folder(self.rt, self.path.as_str())?;
+        if self.is_new {
+            sync_folder(self.rt, parent_of(self.path.as_str()))?;
+            self.is_new = false;
         }
+        Ok(())
     }
 }
 
-/// A folder is synced as a file is: then the names in it outlast a crash.
+/// A folder is synced as a file is.
 fn sync_folder<R: Files<File = File>>(rt: &R, path: &str) -> io::Result<()> {
     File::open(rt, path)?.sync_all()
 }
