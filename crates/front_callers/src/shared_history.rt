@@ -1,5 +1,6 @@
 //! What lies under the lock.
 ghost use Rattle.std.specs.Prelude.{◌≡◌, ◌+◌, ◌^◌, ◌++◌, ◌∷◌, [], length, IfSome, OnSome, IfNone};
+ghost use Rattle.front_rule.specs.Known.{pen_with, pass_with, learnt, note_of_pen};
 ghost use Rattle.front_callers.specs.Callers.{IsOverAllKeys, entry_of};
 
 use front_rule::{LeafMark, Pass, Pen, StoreName, append};
@@ -47,16 +48,18 @@ impl<K: StoreName> SharedHistory<K> {
         pen
     }
 
-    /// Appends one more entry of the pass's caller, and answers its number. None, and the same history, if no number
-    /// is left.
+    /// Appends one more entry of the pass's caller, and answers its number: pen and pass have then seen it, and all
+    /// before it. None, and the same history, if no number is left; the pass has then seen all that there is.
     #[tactic(auto, using(front_rule::proofs::KeyLemmas::in_range_all))]
     pub fn put(&mut self, pass: &mut Pass<K>, key: Key, change: Change) -> Option<u64>
         ensures number { IfSome result (λ n. n ≡ K.first + length self.old.list) }
+        ensures pen { OnSome result (self.new ≡ pen_with self.old (entry_of pass.old key change)) }
+        ensures pass { OnSome result (pass.new ≡ pass_with pass.old self.old (entry_of pass.old key change)) }
         ensures own { OnSome result (pass.new.own ≡ pass.old.own ++ entry_of pass.old key change ∷ []) }
-        ensures list { OnSome result (self.new.list ≡ self.old.list ++ entry_of pass.old key change ∷ []) }
         ensures caller { pass.new.caller ≡ pass.old.caller }
         ensures spent { IfNone result (K.first + length self.old.list ≡ 2 ^ 62) }
         ensures same { IfNone result (self.new ≡ self.old) }
+        ensures learnt { IfNone result (pass.new ≡ learnt pass.old (note_of_pen self.old)) }
     {
         let entry = Entry {
             caller: pass.caller(),
