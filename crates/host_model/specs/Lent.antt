@@ -3,9 +3,8 @@ use Rattle.std.specs.Prelude.{◌≡◌, ℕ, ◌+◌, ◌-◌, ◌^◌, ◌≤�
 use Rattle.std.specs.List.{AllByRecursion}
 use Rattle.fault_count.specs.Counts.{sum_of}
 
--- what contracts see of it while it is at home, the counts that it had when it was handed out, none while it is at
--- home,
--- and how often it failed in all
+-- What contracts see of it while it is at home; the counts that it had when it was handed out, and none while it is at
+-- home; and how often it failed in all.
 pub record Lent (T : Type 0) : Type 0 where
   pub home : Option T
   pub out : List ℕ

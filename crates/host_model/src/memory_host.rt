@@ -15,18 +15,18 @@ pub struct MemoryHost {
     strip: Lending<MemoryStrip, 1>,
     streams: Lending<(ByteSource, ByteSink), 2>,
     notes: Vec<u8>,
-    ghost device: { ForSome strip.thing (λ s. s.book.name.device ≡ 0) },
+    ghost device: { ForSome strip.thing (λ s. s.tally.book.name.device ≡ 0) },
 }
 
 impl MemoryHost {
     /// A host with this strip, which is device 0, these streams, and no notes yet. It takes no memory.
     pub fn new(alloc: Global, strip: MemoryStrip, source: ByteSource, sink: ByteSink) -> MemoryHost
-        requires { strip.book.name.device ≡ 0 }
+        requires { strip.tally.book.name.device ≡ 0 }
         ensures home { IsAllHome (⟦<MemoryHost as Host>⟧.state result) }
         ensures strip { result.strip.thing ≡ Some strip }
         ensures streams { result.streams.thing ≡ Some (source, sink) }
         ensures notes { result.notes.items ≡ [] }
-        ensures device_faults { result.strip.faults ≡ total_of (strip.book.count ∷ []) }
+        ensures device_faults { result.strip.faults ≡ total_of (strip.tally.book.count ∷ []) }
         ensures stream_faults { result.streams.faults ≡ total_of (source.faults ∷ sink.faults ∷ []) }
     {
         let device_faults = [strip.faults()];
@@ -40,7 +40,7 @@ impl MemoryHost {
 
     /// The bytes of the strip, while it is at home.
     pub fn strip_bytes(&self) -> Option<&[u8]>
-        ensures { option_copied result ≡ option_map (λ strip. strip.file.bytes) self.now.strip.thing }
+        ensures { option_copied result ≡ option_map (λ strip. strip.held.bytes) self.now.strip.thing }
     {
         match &self.strip.thing {
             Some(strip) => Some(strip.as_bytes()),

@@ -1,10 +1,12 @@
 //! What is lent comes back, with its faults.
-ghost use Rattle.std.specs.Prelude.{◌≡◌, IfOk};
+ghost use Rattle.std.specs.Prelude.{◌≡◌, ◌≤◌, IfOk, IsSome};
+ghost use Rattle.host_model.specs.HostState.{IsAllHome};
 
 use crate::{Host, Lending, MemoryHost, Word};
 use disk_model::{MemoryStrip, Strip};
 use link_model::{ByteSink, ByteSource, Failed, Sink, Source};
 use std::alloc::Global;
+use std::process::Abort;
 use std::test::Fail;
 
 /// A source of `ab` whose call 0 fails, and an empty sink.
@@ -19,54 +21,105 @@ fn streams(alloc: Global) -> Result<(ByteSource, ByteSink), Fail>
     Ok((source, sink))
 }
 
-#[test]
-fn a_host_has_back_what_it_lent(rt: HostRuntime) -> Result<(), Fail> {
-    let alloc = rt.alloc();
+/// A host of these streams, and of a strip with the bytes `s`.
+fn host_of(alloc: Global) -> Result<MemoryHost, Fail>
+    ensures { IfOk result (λ host. IsAllHome (⟦<MemoryHost as Host>⟧.state host)) }
+{
     let strip = MemoryStrip::new(alloc, 0, Vec::from_slice(alloc, b"s")?, Vec::new(alloc))?;
     let (source, sink) = streams(alloc)?;
-    let mut host = MemoryHost::new(alloc, strip, source, sink);
-    let mut strip = host.strip();
-    let (mut source, mut sink) = host.streams();
-    assert!(rt;
-        host.strip_bytes().is_none() && host.output().is_none() && host.remaining().is_none()
-    );
+    Ok(MemoryHost::new(alloc, strip, source, sink))
+}
+
+/// The first take fails, the second gives a byte, and a put takes two.
+fn use_streams(rt: &(impl Abort + AllocGlobal), source: &mut ByteSource, sink: &mut ByteSink)
+    ensures source { source.old.faults ≤ source.new.faults }
+    ensures sink { sink.old.faults ≤ sink.new.faults }
+{
     assert_eq!(rt; source.take(&mut [0; 1]), Err(Failed));
     assert_eq!(rt; source.take(&mut [0; 1]), Ok(1));
     assert_eq!(rt; sink.put(b"xy"), Ok(()));
-    assert!(rt; strip.write_at(alloc, 1, b"t").is_ok());
+}
+
+/// The host has these bytes on its strip, in its streams and in its notes.
+fn holds(
+    rt: &(impl Abort + AllocGlobal),
+    host: &MemoryHost,
+    strip: &[u8],
+    streams: (&[u8], &[u8]),
+    notes: &[u8],
+) {
+    let (remaining, output) = streams;
+    assert_eq!(rt; host.strip_bytes(), Some(strip));
+    assert_eq!(rt; host.remaining(), Some(remaining));
+    assert_eq!(rt; host.output(), Some(output));
+    assert_eq!(rt; host.notes(), notes);
+}
+
+#[test]
+fn a_host_has_back_the_streams_that_it_lent(rt: HostRuntime) -> Result<(), Fail> {
+    let mut host = host_of(rt.alloc())?;
+    let (mut source, mut sink) = host.streams();
+    assert!(rt; host.output().is_none() && host.remaining().is_none());
+    use_streams(&rt, &mut source, &mut sink);
+    host.give_streams(source, sink);
+    holds(&rt, &host, b"s", (b"b", b"xy"), b"");
+    Ok(())
+}
+
+#[test]
+fn a_host_has_back_the_strip_that_it_lent(rt: HostRuntime) -> Result<(), Fail> {
+    let mut host = host_of(rt.alloc())?;
+    let mut strip = host.strip();
+    assert!(rt; host.strip_bytes().is_none());
+    assert_eq!(rt; strip.as_bytes(), b"s".as_slice());
+    assert!(rt; strip.write_at(rt.alloc(), 1, b"t").is_ok());
+    host.give_back(strip);
+    holds(&rt, &host, b"st", (b"ab", b""), b"");
+    Ok(())
+}
+
+#[test]
+fn a_host_lends_all_at_once(rt: HostRuntime) -> Result<(), Fail> {
+    let mut host = host_of(rt.alloc())?;
+    let strip = host.strip();
+    let (source, sink) = host.streams();
     host.give_streams(source, sink);
     host.give_back(strip);
+    holds(&rt, &host, b"s", (b"ab", b""), b"");
+    Ok(())
+}
+
+#[test]
+fn the_lines_of_the_notes_are_kept(rt: HostRuntime) -> Result<(), Fail> {
+    let mut host = host_of(rt.alloc())?;
     host.note(b"one\n");
     host.note(b"two\n");
-    assert_eq!(rt;
-        host.strip_bytes().ok_or("the strip is out")?,
-        b"st".as_slice()
-    );
-    assert_eq!(rt;
-        host.remaining().ok_or("the streams are out")?,
-        b"b".as_slice()
-    );
-    assert_eq!(rt;
-        host.output().ok_or("the streams are out")?,
-        b"xy".as_slice()
-    );
-    assert_eq!(rt; host.notes(), b"one\ntwo\n".as_slice());
+    holds(&rt, &host, b"s", (b"ab", b""), b"one\ntwo\n");
     Ok(())
+}
+
+/// The streams are lent, taken from once, and taken back; then so many faults are counted.
+fn counts(
+    rt: &(impl Abort + AllocGlobal),
+    lending: &mut Lending<(ByteSource, ByteSink), 2>,
+    faults: u64,
+)
+    requires { IsSome lending.old.thing }
+    ensures { IsSome lending.new.thing }
+{
+    let (mut source, sink) = lending.lend();
+    let _ = source.take(&mut [0; 1]);
+    let now = [source.faults(), sink.faults()];
+    lending.take_back((source, sink), now);
+    assert_eq!(rt; lending.faults.get(), faults);
 }
 
 #[test]
 fn faults_while_a_thing_is_out_are_counted(rt: HostRuntime) -> Result<(), Fail> {
     let mut lending = Lending::new(streams(rt.alloc())?, [0, 0]);
-    let (mut source, sink) = lending.lend();
-    let _ = source.take(&mut [0; 1]);
-    let counts = [source.faults(), sink.faults()];
-    lending.take_back((source, sink), counts);
-    assert_eq!(rt; lending.faults.get(), 1);
-    // Old faults are not counted again.
-    let (source, sink) = lending.lend();
-    let counts = [source.faults(), sink.faults()];
-    lending.take_back((source, sink), counts);
-    assert_eq!(rt; lending.faults.get(), 1);
+    counts(&rt, &mut lending, 1);
+    // The second take does not fail, and the old fault is not counted again.
+    counts(&rt, &mut lending, 1);
     Ok(())
 }
 
