@@ -68,10 +68,10 @@ outcome_of_refusal (journal.Fault unit) = DeviceFailed unit.device
 outcome_of_refusal (journal.TornHeader at) = TornHeader at
 outcome_of_refusal journal.Memory = OutOfMemory
 
--- the statuses that a device's fault would have forestalled
+-- the statuses that come only if no device failed
 abbrev pub IsCleanOfDevices : ℕ → Type 0
 IsCleanOfDevices status = (status ≡ 0) ⊎ ((status ≡ 1) ⊎ ((status ≡ 3) ⊎ (status ≡ 5)))
 
--- the statuses that a stream's fault would have forestalled
+-- the statuses that come only if no stream failed
 abbrev pub IsCleanOfStreams : ℕ → Type 0
 IsCleanOfStreams status = (status ≡ 0) ⊎ ((status ≡ 1) ⊎ (status ≡ 3))

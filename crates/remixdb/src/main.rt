@@ -1,9 +1,9 @@
 //! RemixDB: an ordered key-value store. One session from standard input to standard output.
 //!
 //! Stands for   `remixdb(words, host) -> status` (`src/top.rt`)
-//! Promises     the bytes put are the replies that one ordered map gives to the requests that came; at status 0, 1 and
-//!              5, and at 4 where each counted fault was told in a reply, the strip's log holds each accepted update once,
-//!              in order; each status has its cause (`specs/Scripts.antt`)
+//! Promises     the bytes put are the replies that one ordered map gives to the requests that came; after status 0, 1
+//!              and 5, and after 4 if each counted fault was told in a reply, the strip's log holds each accepted update
+//!              once, in order; each status has its cause (`specs/Scripts.antt`)
 //! Goes in      the words of a command line, and a host: a strip, a source, a sink, a place for notes
 //! Comes out    a status, and a line of the notes for each status but 0
 //! Stands on    host_model, session_core, frame_journal, disk_model, link_model, fault_count, wire_protocol,
