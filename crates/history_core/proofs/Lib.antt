@@ -1,1 +1,3 @@
 pub mod SessionLemmas
+pub mod OperationLemmas
+pub mod PassLemmas

@@ -27,7 +27,7 @@ IsEntry-grown history more number entry is = (is.0, slice_get-grown history.entr
 pub after-grown : (history : History) (more : List Entry) (front : ℕ) → front ≤ end history → after (grown history more) front ≡ after history front
 after-grown history more front le = ap (applied_all history.base) (take-append-le (front - history.first) history.entries more (omega arith))
 
-end-grown : (history : History) (more : List Entry) (front : ℕ) → front ≤ end history → front ≤ end (grown history more)
+pub end-grown : (history : History) (more : List Entry) (front : ℕ) → front ≤ end history → front ≤ end (grown history more)
 end-grown history more front le = omega (arith, length-append history.entries more)
 
 pub Replays-grown : (history : History) (more : List Entry) (state : SessionState) (request : Request) (reply : Reply) (next : SessionState) → Replays history state request reply next → Replays (grown history more) state request reply next
