@@ -23,9 +23,8 @@ abbrev pub told_by_all : ℕ → List Reply → ℕ
 told_by_all device [] = 0
 told_by_all device (reply ∷ replies) = told_by device reply + told_by_all device replies
 
--- Counts after so many failures of each device were told: each rose just as often, or stands at its last value, and
--- none
--- moved of which nothing was told.
+-- Counts after so many failures of each device were told: each rose just as often, or stands at its last value. A count
+-- of which nothing was told did not move.
 pub record CountsRose (before now told : ℕ → ℕ) : Type 0 where
   pub later : (device : ℕ) → before device ≤ now device
   pub each : (device : ℕ) → min (before device + told device) (2 ^ 64 - 1) ≤ now device

@@ -1,5 +1,5 @@
 //! A session from its first byte to its end.
-ghost use Rattle.std.specs.Prelude.{◌≡◌, ◌≢◌, ◌+◌, ◌≤◌, ◌<◌, [], vec_capacity, Some, None};
+ghost use Rattle.std.specs.Prelude.{◌≡◌, ◌≢◌, ◌+◌, ◌≤◌, ◌<◌, [], true, vec_capacity, Some, None};
 ghost use Rattle.wire_protocol.specs.declared.limits.TheConstants.{REPLY_MAX};
 ghost use Rattle.wire_protocol.specs.Grammar.{spell_reply as reply_bytes};
 ghost use Rattle.fault_count.specs.Counts.{RoseByOne};
@@ -96,6 +96,7 @@ fn pass_on<W: Sink>(end: SessionEnd, sink: &mut W) -> SessionEnd
     ensures failed { end ≢ SessionEnd.SinkFault → result ≡ SessionEnd.SinkFault →
         RoseByOne (W.faults sink.old) (W.faults sink.new) }
     ensures kept { result ≢ SessionEnd.SinkFault → W.faults sink.new ≡ W.faults sink.old }
+    ensures passed_on { result ≢ SessionEnd.SinkFault → W.is_passed_on sink.new ≡ true }
 {
     if end == SessionEnd::SinkFault {
         return end;
@@ -136,6 +137,10 @@ pub fn run_session<A: Answers, R: Source, W: Sink>(
     ensures source_kept { result.end ≢ SessionEnd.SourceFault → result.end ≢ SessionEnd.SinkFault →
         R.faults source.new ≡ R.faults source.old }
     ensures sink_kept { result.end ≢ SessionEnd.SinkFault → W.faults sink.new ≡ W.faults sink.old }
+
+    // No reply is held back after a session.
+    ensures passed_on { result.end ≢ SessionEnd.SinkFault → result.end ≢ SessionEnd.Memory →
+        W.is_passed_on sink.new ≡ true }
 {
     let mut faults = FaultPile::new();
     let mut replies: u64 = 0;

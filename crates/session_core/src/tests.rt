@@ -60,11 +60,11 @@ fn ends(
     let bytes = SteadySink::new(alloc, 100)?;
     let mut sink = Holding {
         bytes,
-        is_holding: true,
+        is_passed_on: false,
     };
     let out = serve(alloc, false, &mut source, &mut sink)?;
     assert_eq!(rt; sink.bytes.as_bytes(), output);
-    assert!(rt; !sink.is_holding);
+    assert!(rt; sink.is_passed_on);
     assert_eq!(rt; (out.end, out.replies), (end, replies));
     assert_eq!(rt; source.bytes.remaining(), left);
     Ok(())

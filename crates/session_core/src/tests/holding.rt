@@ -6,7 +6,7 @@ use link_model::{Failed, Sink, SteadySink};
 #[derive(Drop)]
 pub struct Holding {
     pub bytes: SteadySink,
-    pub is_holding: bool,
+    pub is_passed_on: bool,
 }
 
 impl Sink for Holding {
@@ -14,8 +14,10 @@ impl Sink for Holding {
 
     ghost faults = { λ k. k.bytes.faults };
 
+    ghost is_passed_on = { λ k. k.is_passed_on };
+
     fn put(&mut self, piece: &[u8]) -> Result<(), Failed> {
-        self.is_holding = !piece.is_empty();
+        self.is_passed_on = piece.is_empty();
         self.bytes.put(piece)
     }
 }
