@@ -9,4 +9,4 @@ pub make-requires : goal.make-requires
 make-requires g c =
     let part : PartState (List Pair) = record { low = c.new-low.result.items; base = 7; runs = c.args.runs.items; view = c.in_ok-remix.remix.view; anchors = c.in_ok-remix.remix.anchors } in
     one-set {T = List Pair} (λ (r : List Pair). r) part c.push.new.self.items (c.in_ok-push.ensures.items ∙ ap (λ (parts : List (PartState (List Pair))). parts ++ part ∷ []) c.new-parts.ensures.items) c.new-low.ensures.items c.requires
-    (subst (λ (runs : List (List Pair)). Indexes (map (λ (r : List Pair). r) runs) c.in_ok-remix.remix.view c.in_ok-remix.remix.anchors) c.as_slice.ensures.value c.in_ok-remix.ensures)
+    (subst (λ (runs : List (List Pair)). Indexes (map (λ (r : List Pair). r) runs) c.in_ok-remix.remix.view c.in_ok-remix.remix.anchors) c.as_slice.ensures.value c.in_ok-remix.ensures.index)
