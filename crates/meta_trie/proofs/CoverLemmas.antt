@@ -1,4 +1,4 @@
--- The fold over the anchors gives the greatest one that is not above the key. To know: `cover-is`, `better-is`.
+-- The fold over the anchors gives the greatest one that is not above the key. To know: `cover-is`, `best_of-is`, `better-is`.
 use Rattle.std.proofs.Common.{◌≡◌, ℕ, zero, suc, cond, ◌&&◌, List, [], ◌∷◌, refl, sym, ap, ◌∙◌, subst, ◌⊎◌, inl, inr}
 use Rattle.std.specs.Prelude.{Some, slice_get}
 use Rattle.std.specs.Ordering.{is_lt, is_le}
@@ -33,7 +33,7 @@ better-is key best next fits = by (key_cmp next.anchor key) refl (key_cmp best.a
     by Equal e Equal f = kept (λ h. inr (sym (same_key best.anchor next.anchor f)))
     by Equal e Greater f = kept (λ h. inl (turned_greater best.anchor next.anchor f))
 
-best_of-is : (key : List ℕ) (best : Anchored) (more : List Anchored) → AtMost best.anchor key → (i : ℕ) × Best (best ∷ more) key i (best_of key best more)
+pub best_of-is : (key : List ℕ) (best : Anchored) (more : List Anchored) → AtMost best.anchor key → (i : ℕ) × Best (best ∷ more) key i (best_of key best more)
 best_of-is key best [] fits = (0, record { pick = refl; fits = fits; best = only })
   where
     only : (j : ℕ) (b : Anchored) → Pick (best ∷ []) j b → AtMost b.anchor key → AtMost b.anchor best.anchor

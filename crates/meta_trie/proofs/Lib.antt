@@ -15,3 +15,4 @@ pub mod SameLemmas
 pub mod RootLemmas
 pub mod AmongLemmas
 pub mod ReadyLemmas
+pub mod PresenceLemmas

@@ -9,7 +9,7 @@ use Rattle.meta_trie.specs.declared.table.Table.{Table}
 use Rattle.meta_trie.specs.Leaves.{all_of, rest_of}
 use Rattle.meta_trie.specs.Readiness.{IsTrie, IsReady, MayBeReady, anchor_of}
 use Rattle.meta_trie.specs.Tables.{node_at, count_of, room_of}
-use Rattle.meta_trie.specs.Tries.{Anchored, nodes_of, nodes_for, deepest}
+use Rattle.meta_trie.specs.Tries.{Anchored, nodes_of, nodes_for}
 
 -- more room changes nothing of it
 ready-same : (xs ys : List LeafEntry) (s t : Table) (r : Ready) → ys ≡ xs → ((p : List ℕ) → node_at t p ≡ node_at s p) → count_of t ≡ count_of s → room_of s ≤ room_of t

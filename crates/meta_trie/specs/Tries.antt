@@ -62,6 +62,10 @@ nodes_of added = nodes_after [] added + 1
 abbrev pub IsNew : List Anchored → List ℕ → Type 0
 IsNew added anchor = (place : ℕ) (a : Anchored) → slice_get (root ∷ added) place ≡ Some a → a.anchor ≢ anchor
 
+-- an anchor that was added, or the empty one
+abbrev pub IsThere : List Anchored → List ℕ → Type 0
+IsThere added anchor = (place : ℕ) × (a : Anchored) × (slice_get (root ∷ added) place ≡ Some a) × (a.anchor ≡ anchor)
+
 -- `TrieFull`, with the nodes that there are, exactly where there would be more than NODES_MAX with the anchor
 abbrev pub RoomAnswer : {X : Type 0} → Result X TrieError → List Anchored → List ℕ → Type 0
 RoomAnswer (Ok made) added anchor = nodes_of added + nodes_for added anchor ≤ NODES_MAX

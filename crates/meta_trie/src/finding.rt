@@ -15,7 +15,7 @@ ghost use Rattle.rdb_base.specs.declared.limits.TheConstants.{KEY_MAX};
 ghost use Rattle.meta_trie.specs.Leaves.{all_of, previouses, BeginsWithRoot, rest_of};
 ghost use Rattle.meta_trie.specs.Tables.{node_at};
 ghost use Rattle.meta_trie.specs.Tries.{Anchored, cover};
-ghost use Rattle.meta_trie.specs.Nodes.{TrieStands, Best, NextBelow};
+ghost use Rattle.meta_trie.specs.Nodes.{TrieStands, Best, NextBelow, Pick};
 
 use crate::leaf_entry::LeafEntry;
 use crate::node::Node;
@@ -38,6 +38,15 @@ pub(crate) fn leaf_of<L: Ledger>(
 {
     let at = holder(leaves, table, key, steps);
     leaves[at].leaf
+}
+
+/// Whether the greatest anchor that is not above a string is that string.
+pub(crate) fn is_anchor_at(leaves: &[LeafEntry], at: usize, string: &[u8]) -> bool
+    requires best { (a : Anchored) × Best (all_of leaves.now) string.now at a }
+    ensures there { result ≡ true → (j : ℕ) × (b : Anchored) × Pick (all_of leaves.now) j b × (b.anchor ≡ string.now) }
+    ensures new { result ≡ false → (j : ℕ) (b : Anchored) → Pick (all_of leaves.now) j b → b.anchor ≡ string.now → ⊥ }
+{
+    leaves[at].anchor.as_slice() == string
 }
 
 /// The place of the greatest anchor that is not above a key.

@@ -1,10 +1,7 @@
 //! Worked anchors, the last node that fits, and random anchors beside a plain sorted list.
-ghost use Rattle.std.specs.Prelude.{◌≡◌, ◌<◌, ◌≤◌, ℕ, true, length};
-ghost use Rattle.meta_trie.specs.Leaves.{all_of};
-ghost use Rattle.meta_trie.specs.Nodes.{Pick};
-ghost use Rattle.meta_trie.specs.Tries.{Anchored, IsNew, cover};
+ghost use Rattle.std.specs.Prelude.{◌≡◌, ◌<◌, ◌≤◌, false, length};
+ghost use Rattle.meta_trie.specs.Tries.{IsNew, cover};
 
-use crate::leaf_entry::LeafEntry;
 use crate::{MetaTrie, TrieError};
 use rdb_base::{KEY_MAX, Steps};
 use std::alloc::Global;
@@ -30,28 +27,26 @@ fn counted_leaf<L: Ledger>(trie: &MetaTrie, key: &[u8], blank: Blank) -> u32
     trie.find(key, &mut steps)
 }
 
-/// Whether no entry has this anchor.
-fn is_absent(leaves: &[LeafEntry], anchor: &[u8]) -> bool
-    ensures { result ≡ true → (j : ℕ) (b : Anchored) → Pick (all_of leaves.now) j b → b.anchor ≡ anchor.now → ⊥ }
+/// Whether an anchor is there, on a ledger of its own.
+fn has(trie: &MetaTrie, anchor: &[u8]) -> bool
+    ensures { result ≡ false → IsNew trie.now.added anchor.now }
 {
-    'entries: for i in 0..leaves.len() {
-        if leaves[i].anchor.as_slice() == anchor {
-            return false;
-        }
-    }
-    true
+    counted_has::<Brand>(trie, anchor, Blank::new(1))
 }
 
-/// Whether an anchor was not added, and is not the empty one.
-fn is_new(trie: &MetaTrie, anchor: &[u8]) -> bool
-    ensures { result ≡ true → IsNew trie.now.added anchor.now }
+fn counted_has<L: Ledger>(trie: &MetaTrie, anchor: &[u8], blank: Blank) -> bool
+    requires name { blank.name ≡ L.name }
+    requires parts { blank.parts ≡ L.parts }
+    requires some { 0 < blank.parts }
+    ensures { result ≡ false → IsNew trie.now.added anchor.now }
 {
-    is_absent(trie.leaves.as_slice(), anchor)
+    let mut steps = Steps::<L>::begin(blank);
+    trie.has(anchor, &mut steps)
 }
 
 /// Adds an anchor where it is new, and answers whether it was.
 fn add(alloc: Global, trie: &mut MetaTrie, anchor: &[u8], leaf: u32) -> Result<bool, TrieError> {
-    if !is_new(trie, anchor) {
+    if has(trie, anchor) {
         return Ok(false);
     }
     let after = leaf_at(trie, anchor);
@@ -88,6 +83,19 @@ fn ab_and_abc_make_four_nodes(rt: HostRuntime) -> Result<(), Fail> {
     ] {
         assert!(rt; gives(&trie, key, want), "{key:?}");
     }
+    Ok(())
+}
+
+#[test]
+fn an_anchor_that_is_there_is_not_added_again(rt: HostRuntime) -> Result<(), Fail> {
+    let alloc = rt.alloc();
+    let mut trie = MetaTrie::make(alloc)?;
+    assert_eq!(rt; trie.add_if_new(alloc, b"ab", 1), Ok(true));
+    assert_eq!(rt; trie.add_if_new(alloc, b"ab", 2), Ok(false));
+    assert_eq!(rt; trie.add_if_new(alloc, b"", 3), Ok(false));
+    assert_eq!(rt; trie.len(), 1);
+    assert!(rt; gives(&trie, b"ab", 1));
+    assert!(rt; has(&trie, b"ab") && has(&trie, b"") && !has(&trie, b"a"));
     Ok(())
 }
 

@@ -1,0 +1,6 @@
+use Rattle.std.specs.Prelude.{◌≡◌}
+use mathlib.Core.List.{IsPrefix}
+use Rattle.table_switch.proofs.trie_reader.TrieReader.enter.Given as goal
+
+abbrev pub invariant-tries : goal.invariant-tries
+invariant-tries g l = IsPrefix l.fn.self l.self × (l.steps ≡ l.fn.steps)

@@ -1,0 +1,10 @@
+pub mod WalkerLemmas
+pub mod TableLemmas
+pub mod HalfLemmas
+pub mod SoundLemmas
+pub mod StepLemmas
+pub mod SplitLemmas
+pub mod PromiseLemmas
+pub mod PartLemmas
+pub mod StateLemmas
+pub mod RunLemmas
