@@ -1,0 +1,2 @@
+-- The devices of a process, as contracts see them.
+pub mod Real

@@ -43,6 +43,13 @@ impl<'a, R: Files<File = File> + AllocGlobal + Clone + Drop> FileShelf<'a, R> {
         })
     }
 
+    /// How many units were drawn from its book.
+    pub fn faults(&self) -> u64
+        ensures { result ≡ self.now.count }
+    {
+        self.book.count()
+    }
+
     fn store(&mut self, alloc: Global, number: u64, bytes: &[u8]) -> io::Result<()>
         ensures book { self.new ≡ self.old }
     {

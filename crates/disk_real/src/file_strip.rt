@@ -73,6 +73,13 @@ impl<'a, R: Files<File = File>> FileStrip<'a, R> {
         })
     }
 
+    /// How many units were drawn from its book.
+    pub fn faults(&self) -> u64
+        ensures { result ≡ self.now.count }
+    {
+        self.book.count()
+    }
+
     /// Opens the file, if it is there and was not opened before.
     fn open(&mut self) -> io::Result<()>
         ensures book { self.new ≡ self.old }

@@ -1,4 +1,4 @@
-use std::fs::File;
+use std::fs::{self, File};
 use std::io::{self, ErrorKind};
 use std::rt::Files;
 
@@ -30,4 +30,12 @@ pub(crate) fn open_or_make<R: Files<File = File>>(rt: &R, path: &str) -> io::Res
     let mut options = File::options();
     options.read(true).write(true).create(true);
     options.open(rt, path)
+}
+
+/// Whether this path is a folder's, or nothing stands there, so that a folder can be made.
+pub fn can_be_folder<R: Files<File = File>>(rt: &R, path: &str) -> bool {
+    match fs::metadata(rt, path) {
+        Ok(found) => found.is_dir(),
+        Err(error) => error.kind() == ErrorKind::NotFound,
+    }
 }
