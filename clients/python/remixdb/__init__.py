@@ -5,6 +5,9 @@
     with start_program() as store:
         store.ask(Put(b"a", b"1"))
         print(store.ask(Get(b"a")).value)
+
+start_program(dir="FOLDER") starts it over a folder, whose updates last over runs and crashes as soon
+as a Sync was answered.
 """
 
 from .connection import Connection, Program, ProgramFailed, SessionEnded, start_program
@@ -12,15 +15,20 @@ from .messages import (
     Absent,
     BadMessage,
     Bye,
+    Delete,
     DeviceFault,
     Done,
     Get,
+    HistorySpent,
     Message,
     NotAReply,
+    NumbersSpent,
     OutOfMemory,
     Put,
     Quit,
     Refusal,
+    Sync,
+    Synced,
     Value,
 )
 
@@ -29,11 +37,14 @@ __all__ = [
     "BadMessage",
     "Bye",
     "Connection",
+    "Delete",
     "DeviceFault",
     "Done",
     "Get",
+    "HistorySpent",
     "Message",
     "NotAReply",
+    "NumbersSpent",
     "OutOfMemory",
     "Program",
     "ProgramFailed",
@@ -41,6 +52,8 @@ __all__ = [
     "Quit",
     "Refusal",
     "SessionEnded",
+    "Sync",
+    "Synced",
     "Value",
     "start_program",
 ]

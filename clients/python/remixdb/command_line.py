@@ -28,9 +28,9 @@ REFUSED = 1
 BAD_LINE = 2
 
 EXPLANATION = f"""\
-Starts RemixDB over a store in memory, which lasts as long as the session. Reads requests from
-standard input, one a line, and prints a reply for each: at a prompt where input and output are a
-terminal.
+Starts RemixDB over a folder, or over a store in memory, which lasts as long as the session. Reads
+requests from standard input, one a line, and prints a reply for each: at a prompt where input and
+output are a terminal.
 
 {{requests}}
 
@@ -150,6 +150,12 @@ class Help(argparse.Action):
         parser.exit()
 
 
+def a_folder(word: str) -> str:
+    if not word:
+        raise argparse.ArgumentTypeError("a folder's name is wanted, and this word is empty")
+    return word
+
+
 def read_arguments(arguments: Optional[List[str]]) -> argparse.Namespace:
     parser = argparse.ArgumentParser(
         prog=NAME,
@@ -159,6 +165,9 @@ def read_arguments(arguments: Optional[List[str]]) -> argparse.Namespace:
         add_help=False,
     )
     parser.add_argument("-h", "--help", action=Help, nargs=0, help="show this help and end")
+    parser.add_argument(
+        "--dir", metavar="FOLDER", type=a_folder, help="keep the updates in this folder, not in memory"
+    )
     parser.add_argument(
         "--hex", action="store_true", help="show each message in hexadecimal on standard error"
     )
@@ -193,11 +202,11 @@ def die_of(number: signal.Signals) -> int:
     return 128 + number
 
 
-def run(shows_hex: bool) -> int:
+def run(options: argparse.Namespace) -> int:
     """A whole session with a program of its own. Answers the exit status."""
     is_typed = prepare_streams()
     try:
-        store = start_program()
+        store = start_program(options.dir)
     except OSError as fault:
         complain(f"cannot start {program_path()}: {fault.strerror}")
         return REFUSED
@@ -205,7 +214,7 @@ def run(shows_hex: bool) -> int:
     try:
         with store:
             try:
-                status = Session(store, shows_hex, is_typed).run()
+                status = Session(store, options.hex, is_typed).run()
                 store.close()
             except (KeyboardInterrupt, NotAReply):
                 store.interrupt()  # Else the wait for its end could be for ever.
@@ -221,7 +230,7 @@ def main(arguments: Optional[List[str]] = None) -> int:
     if sys.stderr is None:  # It was closed by whoever started this.
         sys.stderr = open(os.devnull, "w")
     try:
-        return run(read_arguments(arguments).hex)
+        return run(read_arguments(arguments))
     except (SessionEnded, NotAReply) as fault:
         complain(str(fault))
         return REFUSED

@@ -6,7 +6,7 @@ import os
 import signal
 import subprocess
 from pathlib import Path
-from typing import IO, Optional, Type
+from typing import IO, Optional, Type, Union
 
 from .messages import (
     LENGTH_BYTES,
@@ -153,6 +153,23 @@ def program_path() -> str:
     return os.environ.get(PROGRAM_VARIABLE) or str(Path(__file__).resolve().parents[3] / "remixdb")
 
 
-def start_program() -> Program:
-    """Starts RemixDB over a store in memory, which lasts as long as the session."""
-    return Program(program_path(), "script", "mem")
+MEMORY = "mem"
+"""The word that stands for a store in memory. A folder of this name is ./mem."""
+
+
+def place_of(dir: Optional[Union[str, "os.PathLike[str]"]]) -> str:
+    """The program's word for a folder, or for memory where there is none."""
+    if dir is None:
+        return MEMORY
+    if not os.fspath(dir):
+        raise ValueError("a folder has a name, and this one is empty")
+    # In this form it is neither the word for memory nor one that begins as an option does.
+    return os.path.join(os.curdir, dir)
+
+
+def start_program(dir: Optional[Union[str, "os.PathLike[str]"]] = None) -> Program:
+    """Starts RemixDB over a folder, or over a store in memory, which lasts as long as the session.
+
+    The folder is made where it is absent, but not the one that it lies in. One program uses it at a time.
+    """
+    return Program(program_path(), "script", place_of(dir))

@@ -131,12 +131,29 @@ class Put(Request):
 
 
 @dataclass(frozen=True)
+class Delete(Request):
+    """Takes a key's value away. The reply is Done, also where the key had none."""
+
+    first_byte = 0x02
+    word = "delete"
+    key: bytes = written_as(KEY)
+
+
+@dataclass(frozen=True)
 class Get(Request):
     """Asks for the value of a key. The reply is Value or Absent."""
 
     first_byte = 0x03
     word = "get"
     key: bytes = written_as(KEY)
+
+
+@dataclass(frozen=True)
+class Sync(Request):
+    """Has the store make its updates last over a crash. The reply is Synced."""
+
+    first_byte = 0x04
+    word = "sync"
 
 
 @dataclass(frozen=True)
@@ -173,6 +190,15 @@ class Absent(Message):
     first_byte = 0x83
     word = "absent"
     front: int = written_as(U64)
+
+
+@dataclass(frozen=True)
+class Synced(Message):
+    """Every update whose number is below this one lasts over a crash."""
+
+    first_byte = 0x84
+    word = "synced"
+    number: int = written_as(U64)
 
 
 @dataclass(frozen=True)
@@ -213,7 +239,7 @@ class BadMessage(Refusal):
 
 @dataclass(eq=False)
 class DeviceFault(Refusal):
-    """A device of the store failed. The session goes on."""
+    """A device of the store failed. The session goes on, and a later request tries the device again."""
 
     first_byte = 0xE4
     word = "device fault"
@@ -234,11 +260,48 @@ class OutOfMemory(Refusal):
         return self.word
 
 
-REQUESTS: Dict[str, Type[Request]] = {each.word: each for each in (Put, Get, Quit)}
+@dataclass(eq=False)
+class HistorySpent(Refusal):
+    """The store took as many updates as it can number, and takes no more. The session goes on."""
+
+    first_byte = 0xE7
+    word = "history spent"
+    number: int = written_as(U64)
+
+    def __str__(self) -> str:
+        return f"{self.word}: the next update would be number {self.number}"
+
+
+@dataclass(eq=False)
+class NumbersSpent(Refusal):
+    """The store has no numbers left for files, and takes no updates. The session goes on."""
+
+    first_byte = 0xE8
+    word = "numbers spent"
+    next: int = written_as(U64)
+
+    def __str__(self) -> str:
+        return f"{self.word}: the next file would be number {self.next}"
+
+
+REQUESTS: Dict[str, Type[Request]] = {
+    each.word: each for each in (Put, Delete, Get, Sync, Quit)
+}
 
 REPLIES: Dict[int, Type[Message]] = {
     each.first_byte: each
-    for each in (Done, Value, Absent, Bye, BadMessage, DeviceFault, OutOfMemory)
+    for each in (
+        Done,
+        Value,
+        Absent,
+        Synced,
+        Bye,
+        BadMessage,
+        DeviceFault,
+        OutOfMemory,
+        HistorySpent,
+        NumbersSpent,
+    )
 }
 
 

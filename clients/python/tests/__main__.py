@@ -4,6 +4,7 @@ import signal
 import subprocess
 import sys
 import unittest
+from collections import Counter
 from pathlib import Path
 
 from remixdb.connection import program_path
@@ -60,6 +61,8 @@ def main() -> int:
     tests = unittest.defaultTestLoader.discover(str(here), top_level_dir=str(here.parent))
     signal.signal(signal.SIGALRM, give_up)
     result = unittest.TextTestRunner(verbosity=1, resultclass=Result).run(tests)
+    for reason, count in Counter(reason for _, reason in result.skipped).items():
+        print(f"skipped {count}: {reason}")
     faults = [test for test, _ in result.failures + result.errors] + result.unexpectedSuccesses
     # The parts of a test that failed count as that test.
     failed = len({getattr(test, "test_case", test).id() for test in faults})

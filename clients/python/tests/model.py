@@ -6,7 +6,7 @@ no code with the client, so that a mistake there does not hide one in the store.
 
 from __future__ import annotations
 
-from typing import Dict, Tuple
+from typing import Dict, Optional, Tuple
 
 KEY_MOST = 1_024
 VALUE_MOST = 65_535
@@ -58,7 +58,7 @@ def message(body: bytes) -> bytes:
 
 
 class Session:
-    """A session over a map that begins empty."""
+    """Sessions over one map that begins empty, one after another."""
 
     def __init__(self) -> None:
         self.rows: Dict[bytes, bytes] = {}
@@ -72,20 +72,34 @@ class Session:
             key, value = fields.key(), fields.value()
             fields.finish()
             return self.put(key, value)
+        if code == 0x02:
+            key = fields.key()
+            fields.finish()
+            return self.delete(key)
         if code == 0x03:
             key = fields.key()
             fields.finish()
             return self.get(key)
+        if code == 0x04:
+            fields.finish()
+            return b"\x84" + self.updates.to_bytes(8, "big")
         if code == 0x09:
             fields.finish()
             return b"\x89"
         raise Refused(2)
 
     def put(self, key: bytes, value: bytes) -> bytes:
-        number = self.updates.to_bytes(8, "big")
         self.rows[key] = value
+        return self.done()
+
+    def delete(self, key: bytes) -> bytes:
+        self.rows.pop(key, None)
+        return self.done()
+
+    def done(self) -> bytes:
+        number = self.updates
         self.updates += 1
-        return b"\x81" + number
+        return b"\x81" + number.to_bytes(8, "big")
 
     def get(self, key: bytes) -> bytes:
         front = self.updates.to_bytes(8, "big")
@@ -95,9 +109,9 @@ class Session:
         return b"\x82" + front + len(value).to_bytes(4, "big") + value
 
 
-def session_over(sent: bytes) -> Tuple[int, bytes]:
-    """The status and the output of a session over these bytes."""
-    session = Session()
+def session_over(sent: bytes, session: Optional[Session] = None) -> Tuple[int, bytes]:
+    """The status and the output of a session over these bytes, which may go on with a map."""
+    session = session or Session()
     output = b""
     at = 0
     while at < len(sent):

@@ -16,7 +16,7 @@ from typing import Dict, Tuple
 
 from remixdb.connection import PROGRAM_VARIABLE
 
-from .support import SECONDS
+from .support import SECONDS, fresh_folder
 
 CLIENT = str(Path(__file__).resolve().parents[1] / "remixdb-client")
 
@@ -68,10 +68,36 @@ class Piped(unittest.TestCase):
             notes, "> 00000009 01 0001 61 00000001 31\n< 00000009 81 0000000000000000\n"
         )
 
+    def test_deletes_and_syncs_are_answered(self) -> None:
+        lines = "put a 1\nsync\ndelete a\nget a\nsync\n"
+        replies = "done 0\nsynced 1\ndone 1\nabsent 2\nsynced 2\n"
+        self.assertEqual(run_client(lines), (0, replies, ""))
+
+    def test_a_folder_keeps_updates_over_sessions(self) -> None:
+        folder = fresh_folder(self)
+        replies = "done 0\nsynced 1\nbye\n"
+        self.assertEqual(run_client("put a 1\nsync\nquit\n", "--dir", folder), (0, replies, ""))
+        replies = 'value 1 "1"\ndone 1\n'
+        self.assertEqual(run_client("get a\ndelete a\n", f"--dir={folder}"), (0, replies, ""))
+        self.assertEqual(run_client("get a\n", "--dir", folder), (0, "absent 2\n", ""))
+
+    def test_a_folder_that_cannot_be_made_is_told(self) -> None:
+        folder = os.path.join(fresh_folder(self), "store")
+        status, replies, notes = run_client("get a\n", "--dir", folder)
+        self.assertEqual((status, replies), (1, ""))
+        self.assertRegex(notes, "remixdb: device [0-9]+ failed\n")
+        self.assertIn("the program ended with status 4", notes)
+
+    def test_a_folder_without_a_name_is_refused(self) -> None:
+        status, replies, notes = run_client("get a\n", "--dir", "")
+        self.assertEqual((status, replies), (2, ""))
+        self.assertIn("a folder's name is wanted, and this word is empty", notes)
+
     def test_help_is_given(self) -> None:
         status, told, notes = run_client("", "--help")
         self.assertEqual((status, notes), (0, ""))
         self.assertIn("put KEY VALUE", told)
+        self.assertIn("--dir FOLDER", told)
         self.assertIn("put KEY VALUE", run_client("help\n")[1])
 
     def test_other_options_are_refused(self) -> None:

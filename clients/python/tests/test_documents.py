@@ -12,10 +12,13 @@ from remixdb.connection import program_path
 from remixdb.messages import LENGTH_BYTES, REPLIES, read_reply
 
 from .model import Session
-from .support import SECONDS, run_script
+from .support import SECONDS, fresh_folder, run_script
 
 TOP = Path(__file__).resolve().parents[3]
 PAGES = ("README.md", "docs/client.md")
+FOLDER = re.compile(r"/tmp/[\w/-]+")
+"""A folder that a page shows. A test has a new one in its place, for each page."""
+
 FORMATS = TOP / "docs" / "formats.md"
 
 
@@ -48,10 +51,12 @@ class Commands(unittest.TestCase):
     def test_each_gives_what_its_page_shows(self) -> None:
         shown = 0
         for page in PAGES:
+            folder = fresh_folder(self)
             for command, wanted in commands_in(TOP / page):
                 with self.subTest(page=page, command=command):
                     # The program of the tests is the repository's own, if no other is named.
                     command = command.replace("./remixdb", program_path())
+                    command = FOLDER.sub(folder, command)
                     run = subprocess.run(
                         ["sh", "-c", command], cwd=TOP, capture_output=True, timeout=SECONDS
                     )

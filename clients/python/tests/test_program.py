@@ -5,7 +5,6 @@ from __future__ import annotations
 import array
 import fcntl
 import os
-import resource
 import signal
 import subprocess
 import tempfile
@@ -16,16 +15,24 @@ import unittest
 from typing import IO
 
 from .support import (
+    ABSENT_1,
     BAD_MESSAGE_NOTE,
     BYE,
+    DELETE_A,
     DONE_0,
+    DONE_1,
     GET_A,
+    MEMORY_LIMITS,
     MEMORY_NOTE,
+    NOT_LOADED,
     PUT_A,
     QUIT,
     SCRIPT,
     SECONDS,
     STREAM_NOTE,
+    SYNC,
+    SYNCED_0,
+    SYNCED_1,
     VALUE_1_OF_A,
     WORDS_NOTE,
     Ended,
@@ -33,6 +40,7 @@ from .support import (
     program_path,
     run_program,
     run_script,
+    run_within,
     start_script,
 )
 
@@ -84,6 +92,18 @@ class Sessions(unittest.TestCase):
         answer = bytes.fromhex("0001000c 82 0000000000000001 0000ffff") + value
         self.assertEqual(run_script(put + get), Ended(0, DONE_0 + answer, b""))
 
+    def test_a_delete_takes_a_value_away(self) -> None:
+        absent = bytes.fromhex("00000009 83 0000000000000002")
+        wanted = Ended(0, DONE_0 + VALUE_1_OF_A + DONE_1 + absent, b"")
+        self.assertEqual(run_script(PUT_A + GET_A + DELETE_A + GET_A), wanted)
+
+    def test_a_delete_of_an_absent_key_is_an_update(self) -> None:
+        self.assertEqual(run_script(DELETE_A + GET_A), Ended(0, DONE_0 + ABSENT_1, b""))
+
+    def test_a_sync_answers_how_many_updates_there_were(self) -> None:
+        wanted = Ended(0, SYNCED_0 + DONE_0 + SYNCED_1 + SYNCED_1 + BYE, b"")
+        self.assertEqual(run_script(SYNC + PUT_A + SYNC + SYNC + QUIT), wanted)
+
     def test_an_empty_value_is_a_value(self) -> None:
         put = bytes.fromhex("00000008 01 0001 61 00000000")
         answer = bytes.fromhex("0000000d 82 0000000000000001 00000000")
@@ -131,6 +151,14 @@ class BadMessages(unittest.TestCase):
 
     def test_a_value_that_is_too_long(self) -> None:
         self.assert_refused("00000008 01 0001 61 00010000", 5)
+
+    def test_faults_of_a_delete_and_of_a_sync(self) -> None:
+        self.assert_refused("00000002 02 00", 3)
+        self.assert_refused("00000003 02 0001", 3)
+        self.assert_refused("00000003 02 0000", 4)
+        self.assert_refused("00000003 02 0401", 4)
+        self.assert_refused("00000005 02 0001 61 00", 7)
+        self.assert_refused("00000002 04 00", 7)
 
     def test_bytes_after_the_last_field(self) -> None:
         self.assert_refused("00000002 09 00", 7)
@@ -279,21 +307,9 @@ class Streams(unittest.TestCase):
 class Memory(unittest.TestCase):
     """Less and less memory, in steps of 50 KiB."""
 
-    NOT_LOADED = 127
-
-    def run_within(self, limit: int) -> Ended:
-        run = subprocess.run(
-            [built_path(), *SCRIPT],
-            preexec_fn=lambda: resource.setrlimit(resource.RLIMIT_AS, (limit, limit)),
-            input=b"",
-            capture_output=True,
-            timeout=SECONDS,
-        )
-        return Ended(run.returncode, run.stdout, run.stderr)
-
     def test_a_session_runs_or_memory_is_told(self) -> None:
-        ends = {self.run_within(limit * 1_024) for limit in range(1_000, 6_000, 50)}
-        ends = {ended for ended in ends if ended.status != self.NOT_LOADED}
+        ends = {run_within(limit, b"", *SCRIPT) for limit in MEMORY_LIMITS}
+        ends = {ended for ended in ends if ended.status != NOT_LOADED}
         self.assertEqual(ends, {Ended(0, b"", b""), Ended(6, b"", MEMORY_NOTE)})
 
 
@@ -308,14 +324,17 @@ class Words(unittest.TestCase):
             "mem script",
             "script mem mem",
             "script -- x",
-            "script MEM",
+            "script -x",
+            "script --",
             "chek x",
         ):
             with self.subTest(words=words):
                 self.assertEqual(run_program(PUT_A, *words.split()), Ended(2, b"", WORDS_NOTE))
 
     def test_an_empty_word_is_a_word(self) -> None:
-        self.assertEqual(run_program(PUT_A, "script", "mem", ""), Ended(2, b"", WORDS_NOTE))
+        for words in (("script", "mem", ""), ("script", ""), ("", "mem")):
+            with self.subTest(words=words):
+                self.assertEqual(run_program(PUT_A, *words), Ended(2, b"", WORDS_NOTE))
 
     def test_a_word_that_is_no_text_is_refused(self) -> None:
         # The system hands words over as bytes. These are no UTF-8: a lone byte, an overlong

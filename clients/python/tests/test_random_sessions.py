@@ -3,15 +3,24 @@
 from __future__ import annotations
 
 import random
-import subprocess
 import threading
 import unittest
 from typing import IO, Iterator, List
 
-from .model import message, session_over
-from .support import BAD_MESSAGE_NOTE, SECONDS, Ended, run_script, start_script
+from .model import Session, message, session_over
+from .support import (
+    BAD_MESSAGE_NOTE,
+    SECONDS,
+    Ended,
+    fresh_folder,
+    run_program,
+    run_script,
+    start_script,
+)
 
 SESSIONS = 300
+FOLDERS = 40
+SESSIONS_OF_A_FOLDER = 8
 KEY_LENGTHS = (1, 1, 2, 3, 7, 8, 9, 16, 17, 1_024)
 VALUE_LENGTHS = (0, 1, 5, 200, 3_000, 65_535)
 PIECES = (1, 3, 7, 100, 5_000, 70_000)
@@ -30,11 +39,15 @@ def some_message(source: random.Random, keys: List[bytes]) -> bytes:
     key = source.choice(keys)
     field = len(key).to_bytes(2, "big") + key
     chance = source.random()
-    if chance < 0.45:
+    if chance < 0.40:
         value = some_bytes(source, 1) * source.choice(VALUE_LENGTHS)
         return message(b"\x01" + field + len(value).to_bytes(4, "big") + value)
-    if chance < 0.95:
+    if chance < 0.50:
+        return message(b"\x02" + field)
+    if chance < 0.91:
         return message(b"\x03" + field)
+    if chance < 0.95:
+        return message(b"\x04")
     if chance < 0.97:
         return message(b"\x09")
     return message(some_bytes(source, source.randrange(13)))
@@ -90,8 +103,12 @@ def run_in_pieces(source: random.Random, sent: bytes) -> Ended:
     return Ended(status, output, notes)
 
 
+def ended_as(status: int, output: bytes) -> Ended:
+    return Ended(status, output, BAD_MESSAGE_NOTE if status else b"")
+
+
 class RandomSessions(unittest.TestCase):
-    """Each seed is a session of its own, so that a failure can be run again."""
+    """Each seed is a session, or a folder, of its own, so that a failure can be run again."""
 
     def test_they_are_answered_as_the_model_says(self) -> None:
         statuses = set()
@@ -99,9 +116,18 @@ class RandomSessions(unittest.TestCase):
             with self.subTest(seed=seed):
                 source = random.Random(seed)
                 sent = some_session(source)
-                status, output = session_over(sent)
-                wanted = Ended(status, output, BAD_MESSAGE_NOTE if status else b"")
+                wanted = ended_as(*session_over(sent))
                 self.assertEqual(run_script(sent), wanted)
                 self.assertEqual(run_in_pieces(source, sent), wanted)
-                statuses.add(status)
+                statuses.add(wanted.status)
         self.assertEqual(statuses, {0, 1})
+
+    def test_those_over_one_folder_go_on_where_the_one_before_ended(self) -> None:
+        for seed in range(FOLDERS):
+            with self.subTest(seed=seed):
+                source = random.Random(seed)
+                folder, model = fresh_folder(self), Session()
+                for _ in range(SESSIONS_OF_A_FOLDER):
+                    sent = some_session(source)
+                    wanted = ended_as(*session_over(sent, model))
+                    self.assertEqual(run_program(sent, "script", folder), wanted)

@@ -12,8 +12,9 @@ use std::marker::Model;
 /// A shelf in memory. Contracts see its files and its crash images: it keeps which files a crash may lose or bring
 /// back.
 ///
-/// The calls with the numbers of a list fail, and any other only if it is out of memory. A failed call changes no file,
-/// and the crash images are as after an unfinished put or remove. No crash comes within a call.
+/// The calls with the numbers of a list fail, and any other only if it is out of memory. A failed call changes no file.
+/// The crash images after a put or remove of the list are as after an unfinished one. A call that ran out of memory
+/// leaves all as it was. No crash comes within a call.
 #[derive(Drop)]
 pub struct MemoryShelf {
     tally: Tally,

@@ -14,8 +14,8 @@ use std::marker::Model;
 /// and which ranges changed since then.
 ///
 /// The calls with the numbers of a list fail. Of the others only a write and a cut may fail, where memory runs out.
-/// A failed call changes nothing that a read gives. But a crash after a failed write or cut may leave it done, or done
-/// in part, as it may after one that was not synced.
+/// A failed call changes nothing that a read gives. But a crash after a write or cut of the list may leave it done, or
+/// done in part, as it may after one that was not synced. One that ran out of memory leaves all as it was.
 #[derive(Drop)]
 pub struct MemoryStrip {
     tally: Tally,

@@ -1,5 +1,5 @@
 -- The payloads of a log: a header, or entries one after another. Numbers are big-endian.
-use Rattle.std.specs.Prelude.{ℕ, zero, suc, ◌+◌, ◌-◌, ◌^◌, List, [], ◌∷◌, ◌++◌, length, Result, Ok, Err, nat_lt, ◌==◌, if◌then◌else◌}
+use Rattle.std.specs.Prelude.{ℕ, zero, suc, ◌+◌, List, [], ◌∷◌, ◌++◌, length, Result, Ok, Err, nat_lt, ◌==◌, if◌then◌else◌}
 use Rattle.std.specs.Int.{w8, w32, w64, to_be_bytes}
 use Rattle.rdb_base.specs.declared.limits.TheConstants.{KEY_MAX, VALUE_MAX, NUMBER_MAX}
 use Rattle.entry_code.specs.declared.format.TheConstants.{HEADER_KIND, ENTRIES_KIND}

@@ -163,7 +163,8 @@ impl Batch {
 
     /// The number after its last entry.
     pub fn end(&self) -> u64
-        ensures { result ≡ self.now.first + length self.now.entries }
+        ensures number { result ≡ self.now.first + length self.now.entries }
+        ensures most { result ≤ NUMBER_MAX }
     {
         self.first + self.count as u64
     }

@@ -1,6 +1,6 @@
 -- What the device calls of a phase leave, whatever they answer. To know: body-content, body-crash, body-doubted, body-gated,
 -- gate-content, gate-crash, first_gate-content, first_gate-crash, cut-content, cut-crash.
-use Rattle.std.proofs.Common.{◌≡◌, ℕ, ◌+◌, ◌<◌, true, false, List, [], length, take, drop, sym, subst, ◌∙◌, arith}
+use Rattle.std.proofs.Common.{◌≡◌, ℕ, ◌+◌, ◌<◌, true, false, List, [], length, sym, subst, ◌∙◌, arith}
 use Rattle.disk_model.specs.declared.strip.Strip.{Ghosts}
 use Rattle.disk_model.specs.Calls.{IfTold}
 use Rattle.disk_model.specs.Crashes.{Follows}
@@ -10,7 +10,6 @@ use Rattle.frame_journal.specs.Devices.{OfBytes, IsSynced, OfCrashes}
 use Rattle.frame_journal.specs.Frames.{IsClosedAt, StandsFor}
 use Rattle.frame_journal.specs.declared.phase.Phase.{Phase}
 use Rattle.frame_journal.specs.declared.phase.Phase.TheVariants.{Fresh, Shut, Body, Gate}
-use Rattle.frame_journal.specs.FrameValue.{FrameValue}
 use Rattle.frame_journal.specs.JournalState.{staged_in, opening_in}
 use Rattle.frame_journal.specs.Journals.{unframed, standing_to, covered, EndsAt, IsWrittenAt, HoldsIn, LeftIn, IsSound, StandsForNoneOr, StandsWithOr}
 use Rattle.frame_journal.proofs.JournalLemmas.{closed_stands_none}

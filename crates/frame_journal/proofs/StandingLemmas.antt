@@ -1,12 +1,10 @@
 -- What a journal's strip stands for, whatever a call answered. To know: `stands-sound`.
-use Rattle.std.proofs.Common.{inl, ◌≡◌, ℕ, List, refl, sym, subst}
-use Rattle.disk_model.specs.Strips.{Torn}
+use Rattle.std.proofs.Common.{inl, ℕ, List, refl, sym, subst}
 use Rattle.disk_model.specs.FileLaws.{torn_same}
 use Rattle.disk_model.specs.declared.strip.Strip.{Ghosts}
 use Rattle.frame_journal.specs.declared.phase.Phase.{Phase}
 use Rattle.frame_journal.specs.declared.phase.Phase.TheVariants.{Fresh, Shut, Ready, Staged, Body, Gate}
 use Rattle.frame_journal.specs.Frames.{StandsFor}
-use Rattle.frame_journal.specs.JournalState.{JournalState}
 use Rattle.frame_journal.specs.Journals.{unframed, standing_to, HoldsIn, LeftIn, StagedIn, IsSound, StandsBy, Leaves}
 use Rattle.frame_journal.proofs.JournalLemmas.{closed_stands, closed_stands_none}
 use Rattle.frame_journal.proofs.PhaseLemmas.{gate-either}

@@ -1,5 +1,5 @@
 -- What a pass does is one session over what it has seen at last. To know: `Grows-none`, `Grows-then`, `seen-grown`,
--- `PassMoves-after`, `session_from_pass`.
+-- `PassMoves-after`, `session_from_pass`, `more-own`.
 use Rattle.std.proofs.Common.{◌≡◌, ℕ, ◌+◌, ◌-◌, ◌≤◌, Bool, true, false, cond, List, [], ◌∷◌, ◌++◌, length, refl, sym, ap, subst, ◌∙◌, append_assoc, arith}
 use Rattle.std.specs.Prelude.{◌==◌}
 use Rattle.std.specs.List.{AllByRecursion}
@@ -27,8 +27,8 @@ use Rattle.history_core.proofs.OperationLemmas.{Operates-grown}
 calls_of-append : (xs ys : List Entry) (caller : ℕ) → calls_of (xs ++ ys) caller ≡ calls_of xs caller ++ calls_of ys caller
 calls_of-append xs ys caller = filter-append (λ (entry : Entry). entry.caller == caller) xs ys
 
-pub Grows-none : (pass : PassState) → front_of pass ≤ NUMBER_MAX → Grows pass pass []
-Grows-none pass most = record { caller = refl; ordinal = omega arith; base = refl; first = refl; more = []; entries = sym (append-nil pass.seen.entries); calls = refl; safe = omega arith; next = omega arith; within = most }
+pub Grows-none : (pass : PassState) → Grows pass pass []
+Grows-none pass = record { caller = refl; ordinal = omega arith; base = refl; first = refl; more = []; entries = sym (append-nil pass.seen.entries); calls = refl; safe = omega arith; next = omega arith; within = λ le. le }
 
 pub Grows-then : (a b c : PassState) (xs ys : List Entry) → Grows a b xs → Grows b c ys → Grows a c (xs ++ ys)
 Grows-then a b c xs ys g h = record {
@@ -41,7 +41,7 @@ Grows-then a b c xs ys g h = record {
   calls = calls_of-append g.more h.more a.caller ∙ ap (λ (es : List Entry). es ++ calls_of h.more a.caller) g.calls ∙ ap (λ (es : List Entry). xs ++ es) (subst (λ (n : ℕ). calls_of h.more n ≡ ys) g.caller h.calls);
   safe = omega (arith, g.safe, h.safe);
   next = omega (arith, g.next, h.next);
-  within = h.within;
+  within = λ le. h.within (g.within le);
 }
 
 history_is : (b d : List Row) (f g : ℕ) (e m : List Entry) → b ≡ d → f ≡ g → e ≡ m → let h : History = record { base = b; first = f; entries = e } in let k : History = record { base = d; first = g; entries = m } in h ≡ k
@@ -58,12 +58,12 @@ front_of-grows a b own g = omega (arith, g.first, ap (λ (es : List Entry). leng
 added-same : (a b c d : ℕ) (operations : List Operation) → a ≡ c → b ≡ d → added a b operations ≡ added c d operations
 added-same a b c d operations e f = ap (λ (n : ℕ). added n b operations) e ∙ ap (λ (n : ℕ). added c n operations) f
 
-pub pass_adds_its_updates : (a b : PassState) (operations : List Operation) → front_of a ≤ NUMBER_MAX → PassMovesAll a operations b → Grows a b (added a.caller a.ordinal operations)
-pass_adds_its_updates a b [] most h = subst (λ (p : PassState). Grows a p []) (sym h) (Grows-none a most)
-pass_adds_its_updates a b (operation ∷ operations) most h =
+pub pass_adds_its_updates : (a b : PassState) (operations : List Operation) → PassMovesAll a operations b → Grows a b (added a.caller a.ordinal operations)
+pass_adds_its_updates a b [] h = subst (λ (p : PassState). Grows a p []) (sym h) (Grows-none a)
+pass_adds_its_updates a b (operation ∷ operations) h =
     let between = h.0 in
     let own = added_by a.caller a.ordinal operation in
-    let rest = pass_adds_its_updates between b operations h.1.grows.within h.2 in
+    let rest = pass_adds_its_updates between b operations h.2 in
     let same = added-same between.caller between.ordinal a.caller (a.ordinal + length own) operations h.1.grows.caller h.1.grows.ordinal in
     Grows-then a between b own (added a.caller (a.ordinal + length own) operations) h.1.grows (subst (λ (es : List Entry). Grows between b es) same rest)
 
@@ -114,9 +114,9 @@ pass_goes_all a b least (operation ∷ operations) le h =
     let between = h.0 in
     let one = pass_goes a between least operation le h.1 in
     let rest = pass_goes_all between b one.behind operations one.within h.2 in
-    let more = pass_adds_its_updates between b operations h.1.grows.within h.2 in
+    let more = pass_adds_its_updates between b operations h.2 in
     let seen = seen-grown between b (added between.caller between.ordinal operations) more in
-    let most : end (grown between.seen more.more) ≤ NUMBER_MAX = subst (λ (s : History). end s ≤ NUMBER_MAX) seen more.within in
+    let most : (end between.seen ≤ NUMBER_MAX → end (grown between.seen more.more) ≤ NUMBER_MAX) = subst (λ (s : History). end between.seen ≤ NUMBER_MAX → end s ≤ NUMBER_MAX) seen more.within in
     let first = subst (λ (s : History). Operates s (session_of a least) operation (session_of between one.behind)) (sym seen) (Operates-grown between.seen more.more (session_of a least) operation (session_of between one.behind) most one.operates) in
     record { behind = rest.behind; operates = (session_of between one.behind, first, rest.operates); within = rest.within }
 
@@ -212,7 +212,7 @@ calls_of-own (entry ∷ entries) caller all = by_test (calls_of-own entries call
     by_test rest false e = absurd cc
 
 -- where all that came is the pass's own, just what the operation added came
-more-own : (a b : PassState) (own : List Entry) (g : Grows a b own) → AllByRecursion (λ (entry : Entry). entry.caller ≡ a.caller) g.more → g.more ≡ own
+pub more-own : (a b : PassState) (own : List Entry) (g : Grows a b own) → AllByRecursion (λ (entry : Entry). entry.caller ≡ a.caller) g.more → g.more ≡ own
 more-own a b own g all = sym (calls_of-own g.more a.caller all) ∙ g.calls
 
 entries-alone : (a b : PassState) (own : List Entry) (g : Grows a b own) → g.more ≡ own → b.seen.entries ≡ a.seen.entries ++ own
@@ -273,7 +273,7 @@ pass_alone_is_plain a b (operation ∷ operations) more h e all =
     let between = h.0 in
     let g = h.1.grows in
     let own = added between.caller between.ordinal operations in
-    let rest = pass_adds_its_updates between b operations g.within h.2 in
+    let rest = pass_adds_its_updates between b operations h.2 in
     let whole : a.seen.entries ++ (g.more ++ rest.more) ≡ a.seen.entries ++ more =
     sym (append_assoc a.seen.entries g.more rest.more) ∙ ap (λ (es : List Entry). es ++ rest.more) (sym g.entries) ∙ sym rest.entries ∙ e in
     let parts : g.more ++ rest.more ≡ more = append_cancel_left a.seen.entries (g.more ++ rest.more) more whole in

@@ -1,5 +1,5 @@
 -- What holds of operations.
-use Rattle.std.specs.Prelude.{ℕ, ◌≤◌, List}
+use Rattle.std.specs.Prelude.{◌≤◌, List}
 use Rattle.rdb_base.specs.declared.entry.Entry.{Entry}
 use Rattle.rdb_base.specs.declared.limits.TheConstants.{NUMBER_MAX}
 use Rattle.rdb_base.specs.Histories.{History, end}

@@ -7,10 +7,10 @@ use Rattle.rdb_base.specs.declared.limits.TheConstants.{NUMBER_MAX}
 use Rattle.rdb_base.specs.Histories.{History, end}
 use Rattle.history_core.specs.declared.limits.TheConstants.{DEVICE_MAX}
 use Rattle.history_core.specs.declared.request.Request.{Request}
-use Rattle.history_core.specs.declared.request.Request.TheVariants.{Put, Get, Quit}
+use Rattle.history_core.specs.declared.request.Request.TheVariants.{Put, Delete, Get, Sync, Quit}
 use Rattle.history_core.specs.declared.reply.Reply.{Reply}
-use Rattle.history_core.specs.declared.reply.Reply.TheVariants.{Done, Value, Absent, Bye, DeviceFault, OutOfMemory}
-use Rattle.history_core.specs.Sessions.{SessionState, Enters, Looks, looked_at}
+use Rattle.history_core.specs.declared.reply.Reply.TheVariants.{Done, Value, Absent, Synced, Bye, DeviceFault, OutOfMemory, HistorySpent, NumbersSpent}
+use Rattle.history_core.specs.Sessions.{SessionState, Enters, Looks, IsSpent, looked_at}
 
 pub data Operation : Type 0 where
   -- a put or a delete: the key was changed so, by the entry with this number
@@ -33,12 +33,22 @@ pub data Operation : Type 0 where
 -- the operation of a request with this reply; None where such a request never gets such a reply
 abbrev pub operation_of : Request → Reply → Option Operation
 operation_of (Put row) (Done number) = Some (updated row.key (changes.Put row.value) number)
+operation_of (Delete key) (Done number) = Some (updated key changes.Del number)
 operation_of (Get key) (Value front value) = Some (looked key front (Some value))
 operation_of (Get key) (Absent front) = Some (looked key front None)
+operation_of Sync (Synced number) = Some (synced number)
 operation_of Quit Bye = Some left
+operation_of (Put row) (HistorySpent number) = Some (history_spent number)
+operation_of (Delete key) (HistorySpent number) = Some (history_spent number)
+operation_of (Put row) (NumbersSpent number) = Some (numbers_spent number)
+operation_of (Delete key) (NumbersSpent number) = Some (numbers_spent number)
 operation_of (Put row) (DeviceFault device) = Some (device_failed device)
+operation_of (Delete key) (DeviceFault device) = Some (device_failed device)
+operation_of Sync (DeviceFault device) = Some (device_failed device)
 operation_of (Put row) OutOfMemory = Some no_memory
+operation_of (Delete key) OutOfMemory = Some no_memory
 operation_of (Get key) OutOfMemory = Some no_memory
+operation_of Sync OutOfMemory = Some no_memory
 operation_of request reply = None
 
 -- the operations of these requests with these replies, one after the other
@@ -47,10 +57,6 @@ AreOperations [] [] [] = Unit {0}
 AreOperations (request ∷ requests) (reply ∷ replies) (operation ∷ operations) =
     (operation_of request reply ≡ Some operation) × AreOperations requests replies operations
 AreOperations requests replies operations = ⊥
-
--- the history has no number left
-abbrev pub IsSpent : History → ℕ → Type 0
-IsSpent history number = (number ≡ NUMBER_MAX) × (end history ≡ number)
 
 -- over this history a session in this state may have the operation, and then stands in the next state
 abbrev pub Operates : History → SessionState → Operation → SessionState → Type 0

@@ -3,7 +3,6 @@ use Rattle.std.specs.Prelude.{◌≡◌, ℕ, ◌+◌, ◌≤◌, ◌++◌, List
 use Rattle.std.specs.List.{AllByRecursion}
 use Rattle.rdb_base.specs.declared.row.Row.{Row}
 use Rattle.rdb_base.specs.declared.entry.Entry.{Entry}
-use Rattle.rdb_base.specs.declared.limits.TheConstants.{NUMBER_MAX}
 use Rattle.rdb_base.specs.Maps.{value_at, changed}
 use Rattle.fault_count.specs.Counts.{sum_of}
 use Rattle.history_core.specs.Sessions.{SessionState}
@@ -32,7 +31,7 @@ PassGivesSession =
 -- of its caller's entries just those of its updates were added, once each and in order
 abbrev pub PassAddsItsUpdates : Type 0
 PassAddsItsUpdates =
-    (old new : PassState) (operations : List Operation) → front_of old ≤ NUMBER_MAX → PassMovesAll old operations new →
+    (old new : PassState) (operations : List Operation) → PassMovesAll old operations new →
     Grows old new (added old.caller old.ordinal operations)
 
 -- no sync named a number above this one

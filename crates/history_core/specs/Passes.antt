@@ -8,7 +8,8 @@ use Rattle.rdb_base.specs.Maps.{value_at, applied_all}
 use Rattle.rdb_base.specs.Histories.{History, IsEntry, calls_of, after, end}
 use Rattle.fault_count.specs.Counts.{Rose}
 use Rattle.history_core.specs.declared.limits.TheConstants.{DEVICE_MAX}
-use Rattle.history_core.specs.Operations.{Operation, updated, looked, synced, history_spent, numbers_spent, device_failed, no_memory, left, IsSpent}
+use Rattle.history_core.specs.Sessions.{IsSpent}
+use Rattle.history_core.specs.Operations.{Operation, updated, looked, synced, history_spent, numbers_spent, device_failed, no_memory, left}
 
 pub record PassState : Type 0 where
   -- whose pass it is, and the ordinal of its next update
@@ -59,7 +60,8 @@ pub record Grows (old new : PassState) (own : List Entry) : Type 0 where
   pub calls : calls_of more old.caller ≡ own
   pub safe : old.safe ≤ new.safe
   pub next : old.next ≤ new.next
-  pub within : front_of new ≤ NUMBER_MAX
+  -- no entry comes after the last number
+  pub within : front_of old ≤ NUMBER_MAX → front_of new ≤ NUMBER_MAX
 
 -- a device's failure makes the number of failures told rise, and nothing else moves it
 abbrev pub Tells : Operation → ℕ → ℕ → Type 0

@@ -5,13 +5,14 @@ use Rattle.rdb_base.specs.declared.row.Row.{Row}
 use Rattle.rdb_base.specs.declared.entry.Entry.{Entry}
 use Rattle.rdb_base.specs.declared.change.Change.{Change}
 use Rattle.rdb_base.specs.declared.change.Change.TheVariants as changes
+use Rattle.rdb_base.specs.declared.limits.TheConstants.{NUMBER_MAX}
 use Rattle.rdb_base.specs.Maps.{value_at}
 use Rattle.rdb_base.specs.Histories.{History, IsEntry, AreNumbered, after, end}
 use Rattle.history_core.specs.declared.limits.TheConstants.{DEVICE_MAX}
 use Rattle.history_core.specs.declared.request.Request.{Request}
-use Rattle.history_core.specs.declared.request.Request.TheVariants.{Put, Get, Quit}
+use Rattle.history_core.specs.declared.request.Request.TheVariants.{Put, Delete, Get, Sync, Quit}
 use Rattle.history_core.specs.declared.reply.Reply.{Reply}
-use Rattle.history_core.specs.declared.reply.Reply.TheVariants.{Done, Value, Absent, Bye, DeviceFault, OutOfMemory}
+use Rattle.history_core.specs.declared.reply.Reply.TheVariants.{Done, Value, Absent, Synced, Bye, DeviceFault, OutOfMemory, HistorySpent, NumbersSpent}
 
 -- whose session it is, the ordinal of its next update, and the least number that it may still name
 pub record SessionState : Type 0 where
@@ -25,11 +26,11 @@ entry_by state key change = record { caller = state.caller; ordinal = state.ordi
 
 -- the state after an update with this number
 abbrev pub updated_at : SessionState → ℕ → SessionState
-updated_at state number = record { caller = state.caller; ordinal = state.ordinal + 1; least = number + 1 }
+updated_at state number = record state { ordinal = state.ordinal + 1; least = number + 1 }
 
--- the state after a look at this front
+-- the state after a look at this front, or a sync up to this number
 abbrev pub looked_at : SessionState → ℕ → SessionState
-looked_at state front = record { caller = state.caller; ordinal = state.ordinal; least = front }
+looked_at state front = record state { least = front }
 
 -- an update is entered in the history under its number
 abbrev pub Enters : History → SessionState → List ℕ → Change → ℕ → SessionState → Type 0
@@ -44,17 +45,34 @@ Looks history state key front found next =
     × (value_at (after history front) key ≡ found)
     × (next ≡ looked_at state front)
 
+-- the history has no number left: it ends at the greatest
+abbrev pub IsSpent : History → ℕ → Type 0
+IsSpent history number = (number ≡ NUMBER_MAX) × (end history ≡ number)
+
 -- over this history a session in this state may answer the request so, and then stands in the next state
 abbrev pub Replays : History → SessionState → Request → Reply → SessionState → Type 0
 Replays history state (Put row) (Done number) next = Enters history state row.key (changes.Put row.value) number next
+Replays history state (Delete key) (Done number) next = Enters history state key changes.Del number next
 Replays history state (Get key) (Value front value) next = Looks history state key front (Some value) next
 Replays history state (Get key) (Absent front) next = Looks history state key front None next
+Replays history state Sync (Synced number) next =
+    (state.least ≤ number) × (number ≤ end history) × (next ≡ looked_at state number)
 Replays history state Quit Bye next = next ≡ state
+-- an update for which no number is left changes nothing
+Replays history state (Put row) (HistorySpent number) next = IsSpent history number × (next ≡ state)
+Replays history state (Delete key) (HistorySpent number) next = IsSpent history number × (next ≡ state)
+-- nor does one that needs a compaction for which no number is left
+Replays history state (Put row) (NumbersSpent number) next = (NUMBER_MAX ≤ number) × (next ≡ state)
+Replays history state (Delete key) (NumbersSpent number) next = (NUMBER_MAX ≤ number) × (next ≡ state)
 -- a device that failed changes nothing
 Replays history state (Put row) (DeviceFault device) next = (device ≤ DEVICE_MAX) × (next ≡ state)
+Replays history state (Delete key) (DeviceFault device) next = (device ≤ DEVICE_MAX) × (next ≡ state)
+Replays history state Sync (DeviceFault device) next = (device ≤ DEVICE_MAX) × (next ≡ state)
 -- a request that is out of memory changes nothing
 Replays history state (Put row) OutOfMemory next = next ≡ state
+Replays history state (Delete key) OutOfMemory next = next ≡ state
 Replays history state (Get key) OutOfMemory next = next ≡ state
+Replays history state Sync OutOfMemory next = next ≡ state
 -- no other reply is given
 Replays history state request reply next = ⊥
 

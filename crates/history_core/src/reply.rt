@@ -10,6 +10,8 @@ pub enum Reply {
     Value { front: u64, value: Value },
     /// The key has no value at the front.
     Absent { front: u64 },
+    /// Each entry below this number outlasts a crash.
+    Synced { number: u64 },
     /// The session ends as it was asked to.
     Bye,
     /// The message that begins at this place of the input is refused, and the session ends. The code is that of the
@@ -19,4 +21,8 @@ pub enum Reply {
     DeviceFault { device: u8 },
     /// Memory was refused, and the request changed nothing.
     OutOfMemory,
+    /// The history has no number left for the update: its next would be this one.
+    HistorySpent { number: u64 },
+    /// The update needed a compaction, which has no number left: its next would be this one.
+    NumbersSpent { next: u64 },
 }

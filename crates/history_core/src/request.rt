@@ -5,8 +5,12 @@ use rdb_base::{Key, Row};
 pub enum Request {
     /// The key is to have this value.
     Put { row: Row },
+    /// The key is to have no value.
+    Delete { key: Key },
     /// Which value has the key?
     Get { key: Key },
+    /// All updates so far are to outlast a crash.
+    Sync,
     /// The session is to end.
     Quit,
 }

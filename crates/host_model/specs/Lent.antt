@@ -1,7 +1,7 @@
 -- A thing that is lent: it is at home, or out with the counts of faults that it had when it was handed out.
 use Rattle.std.specs.Prelude.{◌≡◌, ℕ, ◌+◌, ◌-◌, ◌^◌, ◌≤◌, ◌<◌, max, List, [], ◌∷◌, Option, Some, None, ⊤}
 use Rattle.std.specs.List.{AllByRecursion}
-use Rattle.fault_count.specs.Counts.{sum_of}
+use Rattle.fault_count.specs.Counts.{one_more, sum_of}
 
 -- What contracts see of it while it is at home; the counts that it had when it was handed out, and none while it is at
 -- home; and how often it failed in all.
@@ -58,3 +58,7 @@ handed_out counts lent = record { home = None; out = counts; faults = lent.fault
 -- it is back, and its faults rose by what its counts rose while it was out
 abbrev pub taken_back : {T : Type 0} → T → List ℕ → Lent T → Lent T
 taken_back home now lent = record { home = Some home; out = []; faults = risen lent.faults lent.out now }
+
+-- what lends it failed once itself
+abbrev pub failed_once : {T : Type 0} → Lent T → Lent T
+failed_once lent = record lent { faults = one_more lent.faults }

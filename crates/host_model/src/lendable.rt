@@ -1,21 +1,17 @@
-ghost use Rattle.std.specs.Prelude.{ℕ, List, [], ◌∷◌};
-ghost use Rattle.host_model.specs.HostState.{strip_counts, stream_counts};
+ghost use Rattle.std.specs.Prelude.{ℕ, List};
+ghost use Rattle.host_model.specs.HostState.{device_counts, stream_counts};
 
-use disk_model::{MemoryStrip, SteadyStrip, Strip};
+use disk_model::{Devices, Shelf, Strip};
 use link_model::{Sink, Source};
 
-/// What a host can lend: a thing, or several at once, that count their faults.
+/// What a host can lend: several things at once that count their faults.
 pub trait Lendable {
     /// The counts, one for each thing.
     ghost counts: { Self → List ℕ };
 }
 
-impl Lendable for MemoryStrip {
-    ghost counts = { strip_counts ⟦<MemoryStrip as Strip>⟧ };
-}
-
-impl Lendable for SteadyStrip {
-    ghost counts = { strip_counts ⟦<SteadyStrip as Strip>⟧ };
+impl<S: Strip + Drop, H: Shelf + Drop> Lendable for Devices<S, H> {
+    ghost counts = { device_counts S.Strip H.Shelf };
 }
 
 impl<S: Source, K: Sink> Lendable for (S, K) {

@@ -1,6 +1,7 @@
 ghost use Rattle.std.specs.Prelude.{◌≡◌, ◌^◌, ◌-◌, [], None, Some, min, slice_index, IsSome};
 ghost use Rattle.std.specs.Option.{ForSome};
 ghost use Rattle.std.proofs.Props.{props};
+ghost use Rattle.fault_count.specs.Counts.{one_more};
 ghost use Rattle.host_model.specs.Lent.{NoneFell, rise_of, risen, total_of, AllFit, AreWithin};
 
 use crate::lendable::Lendable;
@@ -85,5 +86,26 @@ impl<T: Lendable + Drop, const N: usize> Lending<T, N> {
         self.faults.rise_by(rise_between(&self.counts, &counts));
         self.counts = counts;
         self.thing = Some(thing);
+    }
+
+    /// Puts another thing in the place of the one at home, with its own counts of faults.
+    pub fn replace(&mut self, thing: T, counts: [u64; N])
+        requires counts { T.counts thing ≡ counts }
+        requires within { AreWithin self.old.faults counts }
+        ensures home { self.new.thing ≡ Some thing }
+        ensures counts { self.new.counts ≡ counts.entry }
+        ensures faults { self.new.faults ≡ self.old.faults }
+    {
+        self.counts = counts;
+        self.thing = Some(thing);
+    }
+
+    /// Counts one failure of what lends the thing.
+    pub fn fail(&mut self)
+        ensures thing { self.new.thing ≡ self.old.thing }
+        ensures counts { self.new.counts ≡ self.old.counts }
+        ensures faults { self.new.faults ≡ one_more self.old.faults }
+    {
+        self.faults.rise();
     }
 }

@@ -1,51 +1,93 @@
-ghost use Rattle.std.specs.Prelude.{◌≡◌, ◌⊎◌, [], ◌∷◌, ◌++◌, Some, None};
-ghost use Rattle.std.specs.Option.{option_copied, option_map, ForSome};
-ghost use Rattle.host_model.specs.Lent.{lent_of, total_of};
-ghost use Rattle.host_model.specs.HostState.{IsAllHome, strip_bytes, stream_bytes};
+ghost use Rattle.std.specs.Prelude.{◌≡◌, ◌⊎◌, [], ◌++◌, length, Some, None};
+ghost use Rattle.std.specs.Option.{option_copied, option_map, ForSome, MatchOption};
+ghost use Rattle.disk_model.specs.Facts.{AreDevices};
+ghost use Rattle.disk_model.specs.declared.limits.TheConstants.{LOG_STRIPS};
+ghost use Rattle.host_model.specs.Lent.{IsOut, lent_of, risen, total_of};
+ghost use Rattle.host_model.specs.HostState.{IsAllHome, device_bytes, device_counts, stream_bytes, stream_counts};
+ghost use Rattle.host_model.specs.MemoryHome.{StripLeavesHome, ShelfLeavesHome};
 
 use crate::host::Host;
 use crate::lending::Lending;
-use disk_model::{MemoryStrip, Strip};
+use crate::place::Place;
+use disk_model::{DeviceError, Devices, MemoryShelf, MemoryStrip, Shelf, Strip};
 use link_model::{ByteSink, ByteSource, Sink, Source};
 use std::alloc::Global;
 
-/// A host in memory: contracts see the bytes of its strip and of its streams, and its notes are kept.
+type MemoryDevices = Devices<MemoryStrip, MemoryShelf>;
+
+/// A host in memory: contracts see the bytes and the crash images of its devices and the bytes of its streams, and its
+/// notes are kept. Whatever the place, it hands out the same devices.
 #[derive(Drop)]
 pub struct MemoryHost {
-    strip: Lending<MemoryStrip, 1>,
+    devices: Lending<MemoryDevices, 11>,
     streams: Lending<(ByteSource, ByteSink), 2>,
     notes: Vec<u8>,
-    ghost device: { ForSome strip.thing (λ s. s.tally.book.name.device ≡ 0) },
+    ghost devices_are: { ForSome devices.thing (AreDevices ⟦<MemoryStrip as Strip>⟧ ⟦<MemoryShelf as Shelf>⟧) },
+}
+
+/// How often each device failed, by number.
+fn counts_of(devices: &MemoryDevices) -> [u64; 11]
+    requires { length devices.now.log.items ≡ LOG_STRIPS }
+    ensures { result ≡ device_counts ⟦<MemoryStrip as Strip>⟧ ⟦<MemoryShelf as Shelf>⟧ devices.now }
+{
+    match devices.log.as_slice() {
+        [s0, s1, s2, s3, s4, s5, s6, s7] => [
+            s0.faults(),
+            s1.faults(),
+            s2.faults(),
+            s3.faults(),
+            s4.faults(),
+            s5.faults(),
+            s6.faults(),
+            s7.faults(),
+            devices.manifest_a.faults(),
+            devices.manifest_b.faults(),
+            devices.shelf.faults(),
+        ],
+        _ => unreachable!(),
+    }
 }
 
 impl MemoryHost {
-    /// A host with this strip, which is device 0, these streams, and no notes yet. It takes no memory.
-    pub fn new(alloc: Global, strip: MemoryStrip, source: ByteSource, sink: ByteSink) -> MemoryHost
-        requires { strip.tally.book.name.device ≡ 0 }
+    /// A host with these devices, these streams, and no notes yet. It takes no memory.
+    pub fn new(
+        alloc: Global,
+        devices: MemoryDevices,
+        source: ByteSource,
+        sink: ByteSink,
+    ) -> MemoryHost
+        requires { AreDevices ⟦<MemoryStrip as Strip>⟧ ⟦<MemoryShelf as Shelf>⟧ devices }
         ensures home { IsAllHome (⟦<MemoryHost as Host>⟧.state result) }
-        ensures strip { result.strip.thing ≡ Some strip }
+        ensures devices { result.devices.thing ≡ Some devices }
         ensures streams { result.streams.thing ≡ Some (source, sink) }
         ensures notes { result.notes.items ≡ [] }
-        ensures device_faults { result.strip.faults ≡ total_of (strip.tally.book.count ∷ []) }
-        ensures stream_faults { result.streams.faults ≡ total_of (source.faults ∷ sink.faults ∷ []) }
+        ensures device_faults { result.devices.faults
+            ≡ total_of (device_counts ⟦<MemoryStrip as Strip>⟧ ⟦<MemoryShelf as Shelf>⟧ devices) }
+        ensures stream_faults { result.streams.faults
+            ≡ total_of (stream_counts ⟦<ByteSource as Source>⟧ ⟦<ByteSink as Sink>⟧ (source, sink)) }
     {
-        let device_faults = [strip.faults()];
+        let device_faults = counts_of(&devices);
         let stream_faults = [source.faults(), sink.faults()];
         MemoryHost {
-            strip: Lending::new(strip, device_faults),
+            devices: Lending::new(devices, device_faults),
             streams: Lending::new((source, sink), stream_faults),
             notes: Vec::new(alloc),
         }
     }
 
-    /// The bytes of the strip, while it is at home.
-    pub fn strip_bytes(&self) -> Option<&[u8]>
-        ensures { option_copied result ≡ option_map (λ strip. strip.held.bytes) self.now.strip.thing }
+    /// The devices, while they are at home.
+    pub fn at_home(&self) -> Option<&MemoryDevices>
+        ensures { option_copied result ≡ self.now.devices.thing }
     {
-        match &self.strip.thing {
-            Some(strip) => Some(strip.as_bytes()),
-            None => None,
-        }
+        self.devices.thing.as_ref()
+    }
+
+    /// The devices, if they are at home. The host is over.
+    pub fn into_devices(self) -> Option<MemoryDevices>
+        ensures { result ≡ self.devices.thing }
+    {
+        let MemoryHost { devices, .. } = self;
+        devices.thing
     }
 
     /// The bytes that were put, while the streams are at home.
@@ -79,23 +121,43 @@ impl MemoryHost {
 impl Host for MemoryHost {
     type Strip = MemoryStrip;
 
+    type Shelf = MemoryShelf;
+
     type In = ByteSource;
 
     type Out = ByteSink;
 
     ghost state = { λ h. record {
-      strip = lent_of (strip_bytes ⟦<MemoryStrip as Strip>⟧) h.strip.thing h.strip.counts h.strip.faults;
+      devices = lent_of (device_bytes ⟦<MemoryStrip as Strip>⟧ ⟦<MemoryShelf as Shelf>⟧)
+          h.devices.thing h.devices.counts h.devices.faults;
       streams = lent_of (stream_bytes ⟦<ByteSource as Source>⟧ ⟦<ByteSink as Sink>⟧)
           h.streams.thing h.streams.counts h.streams.faults;
     } };
 
-    fn strip(&mut self) -> MemoryStrip {
-        self.strip.lend()
+    ghost strip_leaves = { λ h. StripLeavesHome ⟦<MemoryStrip as Strip>⟧ h.devices.thing };
+
+    ghost shelf_leaves = { λ h. ShelfLeavesHome ⟦<MemoryShelf as Shelf>⟧ h.devices.thing };
+
+    fn devices(
+        &mut self,
+        _alloc: Global,
+        _place: &Place,
+    ) -> Result<Devices<MemoryStrip, MemoryShelf>, DeviceError> {
+        Ok(self.devices.lend())
     }
 
-    fn give_back(&mut self, strip: MemoryStrip) {
-        let counts = [strip.faults()];
-        self.strip.take_back(strip, counts);
+    fn give_back(&mut self, devices: Devices<MemoryStrip, MemoryShelf>)
+        requires out { IsOut (device_counts ⟦<MemoryStrip as Strip>⟧ ⟦<MemoryShelf as Shelf>⟧ devices)
+            (lent_of (device_bytes ⟦<MemoryStrip as Strip>⟧ ⟦<MemoryShelf as Shelf>⟧)
+            self.old.devices.thing self.old.devices.counts self.old.devices.faults) }
+        requires all { AreDevices ⟦<MemoryStrip as Strip>⟧ ⟦<MemoryShelf as Shelf>⟧ devices }
+        ensures home { self.new.devices.thing ≡ Some devices }
+        ensures faults { self.new.devices.faults ≡ risen self.old.devices.faults self.old.devices.counts
+            (device_counts ⟦<MemoryStrip as Strip>⟧ ⟦<MemoryShelf as Shelf>⟧ devices) }
+        ensures streams { self.new.streams ≡ self.old.streams }
+    {
+        let counts = counts_of(&devices);
+        self.devices.take_back(devices, counts);
     }
 
     fn streams(&mut self) -> (ByteSource, ByteSink) {
@@ -108,7 +170,7 @@ impl Host for MemoryHost {
     }
 
     fn note(&mut self, line: &[u8])
-        ensures kept { (self.new.strip ≡ self.old.strip) × (self.new.streams ≡ self.old.streams) }
+        ensures kept { (self.new.devices ≡ self.old.devices) × (self.new.streams ≡ self.old.streams) }
         ensures noted { (self.new.notes.items ≡ self.old.notes.items ++ line.now)
             ⊎ (self.new.notes.items ≡ self.old.notes.items) }
     {

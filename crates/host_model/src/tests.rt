@@ -2,8 +2,8 @@
 ghost use Rattle.std.specs.Prelude.{◌≡◌, ◌≤◌, IfOk, IsSome};
 ghost use Rattle.host_model.specs.HostState.{IsAllHome};
 
-use crate::{Host, Lending, MemoryHost, Word};
-use disk_model::{MemoryStrip, Strip};
+use crate::{Host, Lending, MemoryHost, Word, memory_devices};
+use disk_model::MemoryStrip;
 use link_model::{ByteSink, ByteSource, Failed, Sink, Source};
 use std::alloc::Global;
 use std::process::Abort;
@@ -21,13 +21,14 @@ fn streams(alloc: Global) -> Result<(ByteSource, ByteSink), Fail>
     Ok((source, sink))
 }
 
-/// A host of these streams, and of a strip with the bytes `s`.
+/// A host of these streams, and of devices whose first strip has the bytes `s`.
 fn host_of(alloc: Global) -> Result<MemoryHost, Fail>
     ensures { IfOk result (λ host. IsAllHome (⟦<MemoryHost as Host>⟧.state host)) }
 {
     let strip = MemoryStrip::new(alloc, 0, Vec::from_slice(alloc, b"s")?, Vec::new(alloc))?;
+    let devices = memory_devices(alloc, strip)?;
     let (source, sink) = streams(alloc)?;
-    Ok(MemoryHost::new(alloc, strip, source, sink))
+    Ok(MemoryHost::new(alloc, devices, source, sink))
 }
 
 /// The first take fails, the second gives a byte, and a put takes two.
@@ -40,7 +41,18 @@ fn use_streams(rt: &(impl Abort + AllocGlobal), source: &mut ByteSource, sink: &
     assert_eq!(rt; sink.put(b"xy"), Ok(()));
 }
 
-/// The host has these bytes on its strip, in its streams and in its notes.
+/// The bytes of a strip of the log, while the devices are at home.
+fn strip_bytes(host: &MemoryHost, strip: usize) -> Option<&[u8]> {
+    match host.at_home() {
+        Some(devices) => match devices.log.get(strip) {
+            Some(strip) => Some(strip.as_bytes()),
+            None => None,
+        },
+        None => None,
+    }
+}
+
+/// The host has these bytes on its first strip, in its streams and in its notes.
 fn holds(
     rt: &(impl Abort + AllocGlobal),
     host: &MemoryHost,
@@ -49,7 +61,7 @@ fn holds(
     notes: &[u8],
 ) {
     let (remaining, output) = streams;
-    assert_eq!(rt; host.strip_bytes(), Some(strip));
+    assert_eq!(rt; strip_bytes(host, 0), Some(strip));
     assert_eq!(rt; host.remaining(), Some(remaining));
     assert_eq!(rt; host.output(), Some(output));
     assert_eq!(rt; host.notes(), notes);
@@ -63,29 +75,6 @@ fn a_host_has_back_the_streams_that_it_lent(rt: HostRuntime) -> Result<(), Fail>
     use_streams(&rt, &mut source, &mut sink);
     host.give_streams(source, sink);
     holds(&rt, &host, b"s", (b"b", b"xy"), b"");
-    Ok(())
-}
-
-#[test]
-fn a_host_has_back_the_strip_that_it_lent(rt: HostRuntime) -> Result<(), Fail> {
-    let mut host = host_of(rt.alloc())?;
-    let mut strip = host.strip();
-    assert!(rt; host.strip_bytes().is_none());
-    assert_eq!(rt; strip.as_bytes(), b"s".as_slice());
-    assert!(rt; strip.write_at(rt.alloc(), 1, b"t").is_ok());
-    host.give_back(strip);
-    holds(&rt, &host, b"st", (b"ab", b""), b"");
-    Ok(())
-}
-
-#[test]
-fn a_host_lends_all_at_once(rt: HostRuntime) -> Result<(), Fail> {
-    let mut host = host_of(rt.alloc())?;
-    let strip = host.strip();
-    let (source, sink) = host.streams();
-    host.give_streams(source, sink);
-    host.give_back(strip);
-    holds(&rt, &host, b"s", (b"ab", b""), b"");
     Ok(())
 }
 

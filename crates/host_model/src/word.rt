@@ -6,15 +6,15 @@ use std::marker::Model;
 /// A word of a command line. Contracts see it as its bytes.
 #[derive(Debug, Drop)]
 pub struct Word {
-    bytes: Vec<u8>,
+    text: String,
 }
 
 impl Model for Word {
-    ghost use Rattle.std.specs.Prelude.{ℕ, List};
+    ghost use Rattle.std.specs.Prelude.{ℕ, List, string_bytes};
 
     ghost Value = { List ℕ };
 
-    ghost view = { λ w. w.bytes.items };
+    ghost view = { λ w. string_bytes w.text };
 }
 
 impl Word {
@@ -22,21 +22,36 @@ impl Word {
     pub fn try_new(alloc: Global, text: &str) -> Result<Word, AllocError>
         ensures { IfOk result (λ word. word ≡ text.now) }
     {
-        let bytes = Vec::from_slice(alloc, text.as_bytes())?;
-        Ok(Word { bytes })
+        Ok(Word {
+            text: String::from_str(alloc, text)?,
+        })
+    }
+
+    /// A copy of it.
+    pub fn try_copy(&self, alloc: Global) -> Result<Word, AllocError>
+        ensures { IfOk result (λ word. word ≡ self.now) }
+    {
+        Word::try_new(alloc, self.text.as_str())
+    }
+
+    /// Its text.
+    pub fn as_str(&self) -> &str
+        ensures { result.now ≡ self.now }
+    {
+        self.text.as_str()
     }
 
     /// Its bytes.
     pub fn as_bytes(&self) -> &[u8]
         ensures { result.now ≡ self.now }
     {
-        self.bytes.as_slice()
+        self.text.as_bytes()
     }
 
     /// Whether it is this text.
     pub fn is(&self, text: &[u8]) -> bool
         ensures { IsTrue result ↔ (self.now ≡ text.now) }
     {
-        self.bytes.as_slice() == text
+        self.text.as_bytes() == text
     }
 }

@@ -1,35 +1,44 @@
--- What a script does to the bytes of its streams and of its strip, by its status.
-use Rattle.std.specs.Prelude.{◌≡◌, ◌⊎◌, ◌↔◌, ℕ, ◌+◌, ◌-◌, ◌^◌, ◌<◌, ◌≤◌, min, List, [], ◌++◌, length, take, Option, Some, None}
+-- What a script does to the bytes of its streams and of its devices, by its status.
+use Rattle.std.specs.Prelude.{◌≡◌, ◌⊎◌, ◌↔◌, ℕ, ◌-◌, ◌+◌, ◌^◌, ◌<◌, ◌≤◌, List, [], ◌∷◌, ◌++◌, length, drop, Option, Some, None, IfSome}
 use Rattle.std.specs.List.{AllByRecursion}
-use Rattle.fault_count.specs.Counts.{Rose}
+use Rattle.fault_count.specs.Counts.{Rose, sum_of}
+use Rattle.disk_model.specs.Piles.{Units, number_at, book_at}
 use Rattle.history_core.specs.declared.request.Request.{Request}
 use Rattle.history_core.specs.declared.reply.Reply.{Reply}
-use Rattle.history_core.specs.declared.reply.Reply.TheVariants.{BadMessage}
 use Rattle.history_core.specs.Sessions.{IsSession}
-use Rattle.wire_protocol.specs.Grammar.{spell_requests, spell_reply, spell_replies, IsRequest}
-use Rattle.wire_protocol.specs.Messages.{wanted}
-use Rattle.frame_journal.specs.Frames.{frames_of, StandsFor, IsTornAt, HasNoTorn}
+use Rattle.history_core.specs.Passes.{PassState, front_of, map_of}
+use Rattle.history_core.specs.PassLaws.{SyncedWithin, ArePlain}
+use Rattle.wire_protocol.specs.Grammar.{spell_requests, IsRequest}
+use Rattle.store_run.specs.Reopening.{Reopens, ReopensTo, ReopensWithin, ReopensAlike}
 use Rattle.session_core.specs.declared.limits.TheConstants.{SESSION_MAX}
-use Rattle.session_core.specs.PlainMap.{accepted}
-use Rattle.session_core.specs.Telling.{told_by_all}
-use Rattle.session_core.specs.Conversations.{NoQuit, EndsWithQuit, IsRefused, Decided, but_last}
-use Rattle.host_model.specs.HostState.{HostState, StreamBytes}
-use Rattle.remixdb.specs.Outcomes.{IsCleanOfDevices, IsCleanOfStreams}
+use Rattle.session_core.specs.declared.session_end.SessionEnd.{SessionEnd}
+use Rattle.session_core.specs.Answering.{PassAnswers, operations_of}
+use Rattle.session_core.specs.Conversations.{EndsWithQuit, SessionEnds, scene_of}
+use Rattle.session_core.specs.Laws.{AreRepliesOf, Begins}
+use Rattle.host_model.specs.HostState.{HostState, DeviceBytes, StreamBytes}
+use Rattle.remixdb.specs.Outcomes.{IsCleanOfDevices, IsCleanOfStreams, IsOfSession, outcome_of_end, status_of}
 use Rattle.remixdb.specs.Words.{IsScript}
-use Rattle.remixdb.specs.Logged.{joined}
 
--- What contracts see of a host that has all at home: what its source has left, what its sink took, what its strip
--- holds, each where contracts can see it; and how often a device and a stream failed.
+-- What contracts see of a host that has all at home: what its source has left and what its sink took; what its first
+-- strip, which has the log, its other strips and its shelf hold, each where contracts can see it; and how often a device
+-- and a stream failed.
 pub record HomeState : Type 0 where
   pub input : Option (List ℕ)
   pub output : Option (List ℕ)
   pub strip : Option (List ℕ)
+  pub others : List (Option (List ℕ))
+  pub files : Option (ℕ → Option (List ℕ))
   pub device_faults : ℕ
   pub stream_faults : ℕ
 
-abbrev pub bytes_at_home : Option (Option (List ℕ)) → Option (List ℕ)
-bytes_at_home (Some bytes) = bytes
-bytes_at_home None = None
+-- the bytes of the first strip
+abbrev pub first_bytes : List (Option (List ℕ)) → Option (List ℕ)
+first_bytes (bytes ∷ others) = bytes
+first_bytes [] = None
+
+abbrev pub devices_at_home : Option DeviceBytes → DeviceBytes
+devices_at_home (Some devices) = devices
+devices_at_home None = record { strips = []; files = None }
 
 abbrev pub streams_at_home : Option StreamBytes → StreamBytes
 streams_at_home (Some streams) = streams
@@ -39,165 +48,115 @@ abbrev pub home_of : HostState → HomeState
 home_of host = record {
   input = (streams_at_home host.streams.home).input;
   output = (streams_at_home host.streams.home).output;
-  strip = bytes_at_home host.strip.home;
-  device_faults = host.strip.faults;
+  strip = first_bytes (devices_at_home host.devices.home).strips;
+  others = drop 1 (devices_at_home host.devices.home).strips;
+  files = (devices_at_home host.devices.home).files;
+  device_faults = host.devices.faults;
   stream_faults = host.streams.faults;
 }
 
--- what a script met whose bytes contracts can see: what was to come and what is left of it, what was put before and
--- after, and the host before and after
-pub record ScriptBytes : Type 0 where
-  pub input : List ℕ
-  pub left : List ℕ
-  pub before : List ℕ
-  pub after : List ℕ
-  pub old : HomeState
-  pub new : HomeState
+-- this holds of the first strip's bytes, where contracts can see them
+abbrev pub OfStrip : HomeState → (List ℕ → Type 0) → Type 0
+OfStrip home P = (bytes : List ℕ) → home.strip ≡ Some bytes → P bytes
 
--- The input begins with these requests, which leave these bytes, and the replies to them are those of one session over
--- one history, which began empty. Only device 0 is told to have failed.
-pub record Conversed (input : List ℕ) (requests : List Request) (replies : List Reply) (rest : List ℕ) : Type 0 where
-  pub fit : AllByRecursion IsRequest requests
-  pub bytes : input ≡ spell_requests requests ++ rest
-  pub session : IsSession [] 0 requests replies
-  pub devices : (device : ℕ) → 0 < told_by_all device replies → device ≡ 0
+-- This holds of the first strip's bytes and of each crash image of them, where contracts can see them. `leaves` says what
+-- a crash may leave.
+abbrev pub OfImages : (List ℕ → Type 0) → HomeState → (List ℕ → Type 0) → Type 0
+OfImages leaves home P = (bytes : List ℕ) → home.strip ≡ Some bytes → P bytes × ((image : List ℕ) → leaves image → P image)
 
--- no reply tells that a device failed
-abbrev pub TellsNoFault : List Reply → Type 0
-TellsNoFault replies = (device : ℕ) → told_by_all device replies ≡ 0
+-- all devices but the first strip hold what they held
+pub record OthersStay (old new : HomeState) : Type 0 where
+  pub strips : new.others ≡ old.others
+  pub files : new.files ≡ old.files
 
--- where contracts see the strip, it is a journal with no torn header, and its payloads, joined, are those from before
--- and the accepted updates as they were spelled
-abbrev pub Logs : Option (List ℕ) → Option (List ℕ) → List Request → List Reply → Type 0
-Logs before after requests replies = (old : List ℕ) → before ≡ Some old → (new : List ℕ) × (after ≡ Some new)
-    × StandsFor (frames_of new) new
-    × (joined (frames_of new) ≡ joined (frames_of old) ++ spell_requests (accepted requests replies))
+-- nothing was taken and nothing put
+pub record IsSilent (old new : HomeState) : Type 0 where
+  pub input : new.input ≡ old.input
+  pub output : new.output ≡ old.output
 
--- what is known of a session over devices that did not fail: no fault is told, and its updates are logged
-pub record WasSteady (old new : HomeState) (requests : List Request) (replies : List Reply) : Type 0 where
-  pub told : TellsNoFault replies
-  pub logged : Logs old.strip new.strip requests replies
+-- The replies of a session to its requests are those of one ordered map that nobody else changes: it began with the rows
+-- and the number that the pass had seen, and the history that the pass has then seen has its updates, once each and in
+-- order. No SYNCED names a number above that below which each entry is known to be synced.
+pub record IsOneSession (pass now : PassState) (asked : List Request) (answered : List Reply) : Type 0 where
+  pub session : IsSession pass.seen.base pass.seen.first asked answered
+  pub replies : AreRepliesOf pass now asked answered
+  pub plain : ArePlain pass.seen.base pass.seen.first (operations_of asked answered)
+  pub synced : SyncedWithin now.safe (operations_of asked answered)
 
--- where each fault of a device that the host counted was told in a reply, the updates are logged
-abbrev pub LogsIfAllTold : HomeState → HomeState → List Request → List Reply → Type 0
-LogsIfAllTold old new requests replies = new.device_faults ≡ old.device_faults + told_by_all 0 replies
-    → new.device_faults < 2 ^ 64 - 1 → Logs old.strip new.strip requests replies
+-- A script that served a session, how it ended, and what its one caller knew before and after.
+pub record Served (leaves : List ℕ → Type 0) (old new : HomeState) : Type 0 where
+  pub end : SessionEnd
+  pub decided : ℕ
+  pub pass : PassState
+  pub now : PassState
+  pub units : List (Option Units)
+  -- which requests came, which replies were put, and why the session ended
+  pub ends : SessionEnds end 0 (scene_of old.input old.output pass []) (scene_of new.input new.output now units) decided
+  -- it began with the map and the number to which the devices reopen, and with no update of its own
+  pub begins : Begins pass
+  pub begun : OfStrip old (ReopensTo pass.seen.base pass.seen.first)
+  -- nobody else's entry was seen, and the replies are those of one ordered map
+  pub own : AllByRecursion (λ entry. entry.caller ≡ 0) now.seen.entries
+  pub session : (asked : List Request) (answered : List Reply) → PassAnswers pass asked answered now →
+      IsOneSession pass now asked answered
+  -- the devices reopen to the map after the first so many entries, no fewer than are known to be synced
+  pub left : OfImages leaves new (ReopensWithin now.seen now.safe)
+  -- each failure that was told is a unit of device 0's book, and was counted
+  pub devices : (device : ℕ) → IfSome (book_at units device) (λ book. book.device ≡ 0)
+  pub counted : sum_of old.device_faults (number_at units 0) ≤ new.device_faults
 
--- each fault of a device that these replies tell was counted by the host
-abbrev pub AreCounted : HomeState → HomeState → List Request → List Reply → Type 0
-AreCounted old new requests replies = min (old.device_faults + told_by_all 0 replies) (2 ^ 64 - 1) ≤ new.device_faults
+-- the devices reopen to the map after all entries
+abbrev pub HasAll : (List ℕ → Type 0) → HomeState → PassState → Type 0
+HasAll leaves new now = OfImages leaves new (ReopensTo (map_of now) (front_of now))
 
--- what is known of a session over a device that failed: no fault is told that was not counted, and where no other was
--- counted, its updates are logged
-pub record WasFaulty (old new : HomeState) (requests : List Request) (replies : List Reply) : Type 0 where
-  pub counted : AreCounted old new requests replies
-  pub logged : LogsIfAllTold old new requests replies
+-- where each failure of a device that the host counted was told in a reply, the devices have all entries
+abbrev pub HasAllIfTold : (List ℕ → Type 0) → HomeState → HomeState → PassState → List (Option Units) → Type 0
+HasAllIfTold leaves old new now units = new.device_faults ≡ old.device_faults + number_at units 0
+    → new.device_faults < 2 ^ 64 - 1 → HasAll leaves new now
+
+-- nothing was taken, put or written
+pub record IsIdle (old new : HomeState) : Type 0 where
+  pub silent : IsSilent old new
+  pub strip : new.strip ≡ old.strip
+
+-- no session was served: nothing was taken or put, and what reopened to a map before reopens to the same
+pub record NotServed (old new : HomeState) : Type 0 where
+  pub silent : IsSilent old new
+  pub alike : OfStrip old (λ before. OfStrip new (ReopensAlike before))
 
 -- Bytes that are whole requests: up to a QUIT, after which anything may stand, or to their end.
 abbrev pub IsWellFormed : List ℕ → Type 0
 IsWellFormed input = (requests : List Request) × (rest : List ℕ) × AllByRecursion IsRequest requests
     × (input ≡ spell_requests requests ++ rest) × (EndsWithQuit requests ⊎ (rest ≡ []))
 
--- a session that ended well: each request was answered, up to a QUIT or to the end of the input, and no byte was taken
--- after that
-pub record EndsWell (b : ScriptBytes) : Type 0 where
-  pub requests : List Request
-  pub replies : List Reply
-  pub conversed : Conversed b.input requests replies b.left
-  pub ended : EndsWithQuit requests ⊎ (NoQuit requests × (b.left ≡ []))
-  pub put : b.after ≡ b.before ++ spell_replies replies
-
--- why a session ended badly that held these bytes after its last request, and what was put because of it
-abbrev pub EndedBy : List Request → List Reply → List ℕ → ScriptBytes → Type 0
-EndedBy requests replies held b =
-    -- a message that is in no grammar: its refusal was put, with its place and the code of the first test that it fails
-    ((code : ℕ) × IsRefused held code × (b.after ≡ b.before ++ (spell_replies replies
-    ++ spell_reply (BadMessage (length (spell_requests requests)) code))))
-    -- the front of a message that the input does not end
-    ⊎ ((0 < length held) × (0 < wanted held) × (b.left ≡ []) × (b.after ≡ b.before ++ spell_replies replies))
-    -- as many bytes as a session takes, and a message that still lacks some
-    ⊎ ((0 < wanted held) × (length (spell_requests requests) + length held ≡ SESSION_MAX)
-    × (b.after ≡ b.before ++ spell_replies replies))
-
--- a session that ended badly: each request before the end was answered
-pub record EndsBadly (b : ScriptBytes) : Type 0 where
-  pub requests : List Request
-  pub replies : List Reply
-  pub held : List ℕ
-  pub conversed : Conversed b.input requests replies (held ++ b.left)
-  pub no_quit : NoQuit requests
-  pub ended : EndedBy requests replies held b
-
--- A session that a failed stream cut short: a front of what was to be put is there, and in it each reply but the last.
--- Nothing was taken after a QUIT, nor after a reply that was cut.
-pub record EndsCutShort (b : ScriptBytes) : Type 0 where
-  pub requests : List Request
-  pub replies : List Reply
-  pub said : List Reply
-  pub held : List ℕ
-  pub front : ℕ
-  pub failed : Rose b.old.stream_faults b.new.stream_faults
-  pub conversed : Conversed b.input requests replies (held ++ b.left)
-  pub quits : NoQuit requests ⊎ (EndsWithQuit requests × (held ≡ []))
-  pub is_said : Decided (length (spell_requests requests)) held replies said
-  pub put : b.after ≡ b.before ++ take front (spell_replies said)
-  pub whole : length (spell_replies (but_last said)) ≤ front
-  pub taken : length said ≡ length replies → front < length (spell_replies said) → held ≡ []
-
--- how a session ended that began, with this of its requests and replies
-abbrev pub Served : ScriptBytes → (List Request → List Reply → Type 0) → Type 0
-Served b P =
-    ((s : EndsWell b) × P s.requests s.replies)
-    ⊎ (((s : EndsBadly b) × P s.requests s.replies)
-    ⊎ ((s : EndsCutShort b) × P s.requests s.replies))
-
--- where contracts see the strip, a header is torn at a place of it
-abbrev pub HasTorn : Option (List ℕ) → Type 0
-HasTorn strip = (bytes : List ℕ) → strip ≡ Some bytes → (at : ℕ) × IsTornAt bytes at
-
--- where contracts see the strip, no header is torn
-abbrev pub HasNone : Option (List ℕ) → Type 0
-HasNone strip = (bytes : List ℕ) → strip ≡ Some bytes → HasNoTorn bytes
-
--- nothing was taken and nothing put
-abbrev pub IsSilent : ScriptBytes → Type 0
-IsSilent b = (b.left ≡ b.input) × (b.after ≡ b.before)
-
 -- what a script with this status made of the bytes
-pub record ScriptEnds (status : ℕ) (b : ScriptBytes) : Type 0 where
-  pub well : status ≡ 0 → (s : EndsWell b) × WasSteady b.old b.new s.requests s.replies
-  pub badly : status ≡ 1 → (s : EndsBadly b) × WasSteady b.old b.new s.requests s.replies
-  pub torn : status ≡ 3 → IsSilent b × (b.new.strip ≡ b.old.strip) × HasTorn b.old.strip
-  -- opening failed, or a session was served all the same
-  pub faulted : status ≡ 4 → (IsSilent b × (b.new.strip ≡ b.old.strip)) ⊎ Served b (WasFaulty b.old b.new)
-  pub cut_short : status ≡ 5 → (s : EndsCutShort b) × WasSteady b.old b.new s.requests s.replies
-  -- out of memory before the first byte, in opening's clear or after the last reply
-  pub short : status ≡ 6 → IsSilent b ⊎ Served b (AreCounted b.old b.new)
-  -- a session begins only over a strip without a torn header
-  pub whole : (status ≡ 0) ⊎ ((status ≡ 1) ⊎ (status ≡ 5)) → HasNone b.old.strip
-  -- over a strip with one nothing is taken or put, and the strip stays as it was
-  pub idle : HasNone b.old.strip ⊎ (IsSilent b × (b.new.strip ≡ b.old.strip))
+pub record ScriptEnds (status : ℕ) (leaves : List ℕ → Type 0) (old new : HomeState) : Type 0 where
+  -- a session ended so, no failure of a device was told, and the devices have all entries
+  pub ended : IsOfSession status → (s : Served leaves old new) × (status ≡ status_of (outcome_of_end s.end))
+      × ((device : ℕ) → number_at s.units device ≡ 0) × HasAll leaves new s.now
+  -- opening refused the devices, which reopen to no map
+  pub refused : status ≡ 3 → IsIdle old new × OfStrip old (λ bytes. Reopens bytes → ⊥)
+  -- a device failed before a session, or one was served all the same
+  pub failed : status ≡ 4 → NotServed old new ⊎ ((s : Served leaves old new) × HasAllIfTold leaves old new s.now s.units)
+  pub short : status ≡ 6 → NotServed old new ⊎ Served leaves old new
+  -- over devices that reopen to no map nothing is taken, put or written, whatever the status
+  pub idle : OfStrip old Reopens ⊎ IsIdle old new
+  pub others : OthersStay old new
   -- input that is well formed does not end badly
-  pub complete : IsWellFormed b.input → length b.input < SESSION_MAX → EndsBadly b → ⊥
-
--- the same of a host whose bytes contracts may see
-abbrev pub ScriptTells : ℕ → HomeState → HomeState → Type 0
-ScriptTells status old new = (input : List ℕ) (before : List ℕ) → old.input ≡ Some input → old.output ≡ Some before
-    → (left : List ℕ) × (after : List ℕ) × (new.input ≡ Some left) × (new.output ≡ Some after)
-    × ScriptEnds status (record { input = input; left = left; before = before; after = after; old = old; new = new })
+  pub complete : (input : List ℕ) → old.input ≡ Some input → IsWellFormed input → length input < SESSION_MAX → status ≡ 1 → ⊥
 
 -- What the host's counts of faults say of a status: 4 comes only if a fault of a device was counted, and 5 only if one
 -- of a stream was; a status of lower rank comes only if none was.
 pub record HasCauses (status : ℕ) (old new : HostState) : Type 0 where
-  pub device_failed : status ≡ 4 → Rose old.strip.faults new.strip.faults
-  pub device_kept : IsCleanOfDevices status → new.strip.faults ≡ old.strip.faults
+  pub device_failed : status ≡ 4 → Rose old.devices.faults new.devices.faults
+  pub device_kept : IsCleanOfDevices status → new.devices.faults ≡ old.devices.faults
   pub stream_failed : status ≡ 5 → Rose old.streams.faults new.streams.faults
   pub stream_kept : IsCleanOfStreams status → new.streams.faults ≡ old.streams.faults
 
 -- what the program does on these words, with this status
-pub record HasRun (words : List (List ℕ)) (status : ℕ) (old new : HostState) : Type 0 where
+pub record HasRun (words : List (List ℕ)) (status : ℕ) (leaves : List ℕ → Type 0) (old new : HostState) : Type 0 where
   pub refused : (status ≡ 2) ↔ (IsScript words → ⊥)
   pub idle : (IsScript words → ⊥) → new ≡ old
   pub least : status ≤ 6
   pub causes : HasCauses status old new
-  pub bytes : IsScript words → ScriptTells status (home_of old) (home_of new)
+  pub bytes : IsScript words → ScriptEnds status leaves (home_of old) (home_of new)

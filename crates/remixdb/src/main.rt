@@ -1,22 +1,21 @@
 //! RemixDB: an ordered key-value store. One session from standard input to standard output.
 //!
 //! Stands for   `remixdb(words, host) -> status` (`src/top.rt`)
-//! Promises     the bytes put are the replies that one ordered map gives to the requests that came; after status 0, 1
-//!              and 5, and after 4 if each counted fault was told in a reply, the strip's log holds each accepted update
-//!              once, in order; each status has its cause (`specs/Scripts.antt`)
-//! Goes in      the words of a command line, and a host: a strip, a source, a sink, a place for notes
+//! Promises     the bytes put are the replies that one ordered map gives to the requests that came; it begins as the map
+//!              to which the devices reopen; whatever the status, the devices then reopen to the map after the first so
+//!              many updates, no fewer than were synced, also after a crash, and after status 0, 1 and 5 to the map
+//!              after all; each status has its cause (`specs/Scripts.antt`)
+//! Goes in      the words of a command line, and a host: devices at a place, a source, a sink, a place for notes
 //! Comes out    a status, and a line of the notes for each status but 0
-//! Stands on    host_model, session_core, frame_journal, disk_model, link_model, fault_count, wire_protocol,
-//!              history_core, rdb_base
+//! Stands on    host_model, store_run, session_core, frame_journal, disk_model, disk_real, link_model, fault_count,
+//!              wire_protocol, history_core, rdb_base
 //! Begin at     src/program.rt, `program`; src/top.rt, `remixdb`
-//! Leaves open  what the standard streams hold
+//! Leaves open  what the standard streams and the files of a folder hold
 #![tactic(auto)]
 
 mod arguments;
 mod command;
-mod log_answers;
-mod logged_map;
-mod ordered_map;
+mod device_counts;
 mod outcome;
 mod program;
 mod script;
@@ -54,7 +53,7 @@ fn without_host(rt: &HostRuntime) -> ExitCode {
 }
 
 fn main(rt: HostRuntime) -> ExitCode {
-    let Ok(mut host) = SystemHost::new(rt.alloc(), rt.stdin(), rt.stdout(), rt.stderr()) else {
+    let Ok(mut host) = SystemHost::new(rt.alloc(), &rt, rt.stdin(), rt.stdout(), rt.stderr()) else {
         return without_host(&rt);
     };
     let status = match arguments_of(&rt) {

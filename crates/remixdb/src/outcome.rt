@@ -1,11 +1,11 @@
 ghost use Rattle.std.specs.Prelude.{◌≡◌};
-ghost use Rattle.remixdb.specs.Outcomes.{status_of, outcome_of_end, failed_of, short_of, least_of, outcome_of_run, outcome_of_refusal};
+ghost use Rattle.remixdb.specs.Outcomes.{status_of, outcome_of_end, outcome_of_run, outcome_of_failure, outcome_of_refusal};
 
 use disk_model::DeviceError;
-use frame_journal::JournalError;
 use rdb_base::NoMemory;
 use session_core::SessionEnd;
 use std::alloc::Global;
+use store_run::OpenError;
 
 /// What came of a run of the program. Each has a status, and each but the first a line for the notes.
 #[derive(Clone, Copy, Debug, PartialEq, Eq)]
@@ -16,43 +16,17 @@ pub enum Outcome {
     /// The words are not in the stated form.
     UnknownWords,
     /// The strip is no journal: a header is torn at this place.
-    TornHeader { at: u64 },
+    TornHeader { strip: u8, at: u64 },
+    /// The frame at this place of the strip is in no grammar of a log: this is its first wrong byte.
+    BadEntry { strip: u8, frame: u64, at: usize },
+    /// The log wants one number, and another was found.
+    LogGap { want: u64, found: u64 },
     /// A device failed, of all that did the one with the least number.
     DeviceFailed { device: u8 },
     /// A stream failed.
     StreamFailed,
     /// Out of memory, and no reply could say so.
     OutOfMemory,
-}
-
-fn failed_device(call: &Result<(), DeviceError>) -> Option<u8>
-    ensures { result ≡ failed_of call.now }
-{
-    match call {
-        Ok(()) => None,
-        Err(DeviceError::Fault(unit)) => Some(unit.device()),
-        Err(DeviceError::Memory) => None,
-    }
-}
-
-fn is_short(call: &Result<(), DeviceError>) -> bool
-    ensures { result ≡ short_of call.now }
-{
-    match call {
-        Ok(()) => false,
-        Err(DeviceError::Fault(_)) => false,
-        Err(DeviceError::Memory) => true,
-    }
-}
-
-fn least(one: Option<u8>, other: Option<u8>) -> Option<u8>
-    ensures { result ≡ least_of one other }
-{
-    match (one, other) {
-        (None, other) => other,
-        (Some(one), None) => Some(one),
-        (Some(one), Some(other)) => Some(one.min(other)),
-    }
 }
 
 impl Outcome {
@@ -69,34 +43,54 @@ impl Outcome {
         }
     }
 
-    /// What came of a run, by what opening's clear, the session's replies and the closing settle told.
-    pub(crate) fn of_run(
-        cleared: &Result<(), DeviceError>,
-        told: Option<u8>,
-        settled: &Result<(), DeviceError>,
-        end: SessionEnd,
-    ) -> Outcome
-        ensures { result ≡ outcome_of_run cleared.now told settled.now end }
+    /// What came of a run: whether closing was out of memory, the least device of which there is a unit, and how the
+    /// session ended.
+    pub(crate) fn of_run(short: bool, failed: Option<u8>, end: SessionEnd) -> Outcome
+        ensures { result ≡ outcome_of_run short failed end }
     {
-        if is_short(cleared) || is_short(settled) || end == SessionEnd::Memory {
+        if short || end == SessionEnd::Memory {
             return Outcome::OutOfMemory;
         }
-        match least(failed_device(cleared), least(told, failed_device(settled))) {
+        match failed {
             Some(device) => Outcome::DeviceFailed { device },
             None => Outcome::of_end(end),
         }
     }
 
+    /// What came of devices that were not handed out.
+    pub(crate) fn of_failure(error: &DeviceError) -> Outcome
+        ensures { result ≡ outcome_of_failure error.now }
+    {
+        match error {
+            DeviceError::Fault(unit) => Outcome::DeviceFailed {
+                device: unit.device(),
+            },
+            DeviceError::Memory => Outcome::OutOfMemory,
+        }
+    }
+
     /// What came of an opening that was refused.
-    pub(crate) fn of_refusal(error: &JournalError) -> Outcome
+    pub(crate) fn of_refusal(error: &OpenError) -> Outcome
         ensures { result ≡ outcome_of_refusal error.now }
     {
         match error {
-            JournalError::Fault(unit) => Outcome::DeviceFailed {
+            OpenError::Device(unit) => Outcome::DeviceFailed {
                 device: unit.device(),
             },
-            JournalError::TornHeader { at } => Outcome::TornHeader { at: *at },
-            JournalError::Memory => Outcome::OutOfMemory,
+            OpenError::TornHeader { strip, at } => Outcome::TornHeader {
+                strip: *strip,
+                at: *at,
+            },
+            OpenError::BadEntry { strip, frame, at } => Outcome::BadEntry {
+                strip: *strip,
+                frame: *frame,
+                at: *at,
+            },
+            OpenError::LogGap { want, found } => Outcome::LogGap {
+                want: *want,
+                found: *found,
+            },
+            OpenError::Memory => Outcome::OutOfMemory,
         }
     }
 
@@ -108,7 +102,7 @@ impl Outcome {
             Outcome::Done => 0,
             Outcome::BadMessage => 1,
             Outcome::UnknownWords => 2,
-            Outcome::TornHeader { .. } => 3,
+            Outcome::TornHeader { .. } | Outcome::BadEntry { .. } | Outcome::LogGap { .. } => 3,
             Outcome::DeviceFailed { .. } => 4,
             Outcome::StreamFailed => 5,
             Outcome::OutOfMemory => 6,
@@ -122,16 +116,23 @@ impl Outcome {
             Outcome::UnknownWords => Some("remixdb: words are not in the stated form\n"),
             Outcome::StreamFailed => Some("remixdb: stream failed\n"),
             Outcome::OutOfMemory => Some("remixdb: out of memory\n"),
-            Outcome::Done | Outcome::TornHeader { .. } | Outcome::DeviceFailed { .. } => None,
+            Outcome::Done | Outcome::DeviceFailed { .. } => None,
+            Outcome::TornHeader { .. } | Outcome::BadEntry { .. } | Outcome::LogGap { .. } => None,
         }
     }
 
     /// Its line for the notes, if it has one with a number in it.
     pub(crate) fn numbered_line(self, alloc: Global) -> Result<Option<String>, NoMemory> {
         let line = match self {
-            Outcome::TornHeader { at } => {
-                format!(in alloc; "remixdb: devices refused: TornHeader strip 0 at {at}\n")?
-            }
+            Outcome::TornHeader { strip, at } => format!(in alloc;
+                "remixdb: devices refused: TornHeader strip {strip} at {at}\n"
+            )?,
+            Outcome::BadEntry { strip, frame, at } => format!(in alloc;
+                "remixdb: devices refused: BadEntry strip {strip} frame {frame} at {at}\n"
+            )?,
+            Outcome::LogGap { want, found } => format!(in alloc;
+                "remixdb: devices refused: LogGap want {want} found {found}\n"
+            )?,
             Outcome::DeviceFailed { device } => format!(in alloc;
                 "remixdb: device {device} failed\n"
             )?,

@@ -6,15 +6,14 @@ use Rattle.std.proofs.Math.Seq.{take-append-add}
 use Rattle.rdb_base.proofs.Lists.{all-append}
 use Rattle.disk_model.specs.Piles.{number_at}
 use Rattle.history_core.specs.declared.request.Request.{Request}
-use Rattle.history_core.specs.declared.request.Request.TheVariants.{Put, Get, Quit}
+use Rattle.history_core.specs.declared.request.Request.TheVariants.{Quit}
 use Rattle.history_core.specs.declared.reply.Reply.{Reply}
-use Rattle.history_core.specs.declared.reply.Reply.TheVariants.{Done, Value, Absent, Bye, BadMessage, DeviceFault, OutOfMemory}
+use Rattle.history_core.specs.declared.reply.Reply.TheVariants.{Bye, BadMessage}
 use Rattle.wire_protocol.specs.Grammar.{spell_request, spell_requests, spell_reply, spell_replies}
 use Rattle.wire_protocol.specs.Messages.{Held, wanted}
 use Rattle.session_core.specs.declared.limits.TheConstants.{SESSION_MAX}
 use Rattle.session_core.specs.declared.session_end.SessionEnd.{SessionEnd}
 use Rattle.session_core.specs.declared.session_end.SessionEnd.TheVariants.{End, Quit as Quitted, Bad, Cut, Spent, SourceFault, SinkFault, Memory}
-use Rattle.session_core.specs.PlainMap.{MapState, MapAnswers}
 use Rattle.session_core.specs.Conversations.{Scene, Exchange, SoFar, is_quit, NoQuit, EndsWithQuit, SessionEnds, PutFailed, Decided, but_last, place_after, before_taking, with_put}
 use Rattle.session_core.specs.Turns.{TurnGoesOn}
 use Rattle.session_core.proofs.CountLemmas.{told_by_one}
@@ -38,21 +37,11 @@ one_turn old new before after t = record {
 pub so_far_more : (from n : ℕ) (old new : Held) (first before after : Scene) → SoFar from first before old.at n → TurnGoesOn old new before after → SoFar from first after new.at (n + 1)
 so_far_more from n old new first before after h t = SoFar-both from old.at new.at n 1 first before after h (one_turn old new before after t)
 
-answer_number : (m k : MapState) (q : Request) (a : Reply) → MapAnswers m q a k → k.number ≤ m.number + 1
-answer_number m k (Put row) (Done number) h = omega (arith, ap (λ (s : MapState). s.number) h.1)
-answer_number m k (Put row) (DeviceFault device) h = omega (arith, ap (λ (s : MapState). s.number) h.1)
-answer_number m k (Put row) OutOfMemory h = omega (arith, ap (λ (s : MapState). s.number) h)
-answer_number m k (Get key) (Value front value) h = omega (arith, ap (λ (s : MapState). s.number) h.2)
-answer_number m k (Get key) (Absent front) h = omega (arith, ap (λ (s : MapState). s.number) h.2)
-answer_number m k (Get key) OutOfMemory h = omega (arith, ap (λ (s : MapState). s.number) h)
-answer_number m k Quit Bye h = omega (arith, ap (λ (s : MapState). s.number) h)
-answer_number m k q a h = absurd h
-
--- a turn that goes on takes a byte at least, makes one update at most, and tells one failure at most
-pub turn_counts : (old new : Held) (before after : Scene) → TurnGoesOn old new before after → (old.at < new.at) × (new.bytes ≡ []) × (after.store.map.number ≤ before.store.map.number + 1) × ((device : ℕ) → number_at after.store.units device ≤ number_at before.store.units device + 1)
+-- a turn that goes on takes a byte at least, and tells one failure at most
+pub turn_counts : (old new : Held) (before after : Scene) → TurnGoesOn old new before after → (old.at < new.at) × (new.bytes ≡ []) × ((device : ℕ) → number_at after.store.units device ≤ number_at before.store.units device + 1)
 turn_counts old new before after t =
     let at : new.at ≡ old.at + length (spell_request t.request) = ap (λ (d : Held). d.at) t.next in
-    (omega (arith, at), ap (λ (d : Held). d.bytes) t.next, answer_number before.store.map after.store.map t.request t.reply t.answered.answer, λ device. omega (arith, t.answered.units device, told_by_one device t.reply))
+    (omega (arith, at), ap (λ (d : Held). d.bytes) t.next, λ device. omega (arith, t.answered.units device, told_by_one device t.reply))
 
 -- ---- a session whose last turn ended it
 
@@ -129,7 +118,7 @@ ended_after Memory from at n d old mid new ne h g = absurd (ne refl)
 
 -- the same exchange, where all its replies are said to be put
 exchange_put : (old new : Scene) (held : List ℕ) (asked : List Request) (answered : List Reply) → Exchange old (before_taking held new) asked answered → Exchange old (with_put (append_known old.put (spell_replies answered)) (before_taking held new)) asked answered
-exchange_put old new held asked answered e = record { requests = e.requests; came = e.came; replies = refl; answers = e.answers; counts = e.counts; units = e.units }
+exchange_put old new held asked answered e = record { requests = e.requests; came = e.came; replies = refl; answers = e.answers; units = e.units }
 
 failed_from : (from : ℕ) (old new : Scene) (held : List ℕ) (asked : List Request) (answered : List Reply) (d : ℕ) → Exchange old (before_taking held new) asked answered → NoQuit asked ⊎ (EndsWithQuit asked × (held ≡ [])) → d ≡ length answered → 0 < wanted held → place_after from asked held ≤ SESSION_MAX → PutFailed from old new d
 failed_from from old new held asked answered d e quits count lacks most = record {
@@ -155,7 +144,6 @@ nothing_held old new asked answered e = record {
   came = e.came ∙ ap (prepend_known (spell_requests asked)) (sym (prepend_known-nil new.coming));
   replies = e.replies;
   answers = e.answers;
-  counts = e.counts;
   units = e.units;
 }
 
@@ -174,7 +162,7 @@ flush_failed (Bad at code) from d old new ne (held, put, others, so_far, refused
       said = said;
       held = held;
       front = length (spell_replies said);
-      exchange = record { requests = e.requests; came = e.came; replies = refl; answers = e.answers; counts = e.counts; units = e.units };
+      exchange = record { requests = e.requests; came = e.came; replies = refl; answers = e.answers; units = e.units };
       quits = inl so_far.no_quit;
       is_said = inr (code, refused, ap (λ (place : ℕ). answered ++ BadMessage place code ∷ []) so_far.place);
       put_is = put_is

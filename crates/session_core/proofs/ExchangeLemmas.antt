@@ -7,10 +7,10 @@ use Rattle.rdb_base.proofs.Lists.{all-append}
 use Rattle.history_core.specs.declared.request.Request.{Request}
 use Rattle.history_core.specs.declared.reply.Reply.{Reply}
 use Rattle.wire_protocol.specs.Grammar.{spell_request, spell_requests, spell_reply, spell_replies, IsRequest}
-use Rattle.session_core.specs.PlainMap.{MapState, MapAnswersAll}
-use Rattle.session_core.specs.Telling.{told_by, told_by_all, StoreAnswers}
+use Rattle.session_core.specs.Telling.{told_by_all, StoreAnswers}
 use Rattle.session_core.specs.Conversations.{Scene, Exchange, SoFar, is_quit}
-use Rattle.session_core.proofs.CountLemmas.{told_by_all-append, CountsRose-both, CountsRose-same, CountsRose-none}
+use Rattle.session_core.proofs.AnswerLemmas.{PassAnswers-none, PassAnswers-one, PassAnswers-both}
+use Rattle.session_core.proofs.CountLemmas.{told_by_all-append}
 
 -- ---- bytes that may be told
 
@@ -40,22 +40,15 @@ pub spell_replies-append : (xs ys : List Reply) → spell_replies (xs ++ ys) ≡
 spell_replies-append [] ys = refl
 spell_replies-append (x ∷ xs) ys = ap (λ (t : List ℕ). spell_reply x ++ t) (spell_replies-append xs ys) ∙ sym (append_assoc (spell_reply x) (spell_replies xs) (spell_replies ys))
 
-pub MapAnswersAll-append : (a b c : MapState) (qs ps : List Request) (rs ss : List Reply) → MapAnswersAll a qs rs b → MapAnswersAll b ps ss c → MapAnswersAll a (qs ++ ps) (rs ++ ss) c
-MapAnswersAll-append a b c [] ps [] ss h g = subst (λ (m : MapState). MapAnswersAll m ps ss c) h g
-MapAnswersAll-append a b c (q ∷ qs) ps (r ∷ rs) ss h g = (h.0, h.1, MapAnswersAll-append h.0 b c qs ps rs ss h.2 g)
-MapAnswersAll-append a b c [] ps (r ∷ rs) ss h g = absurd h
-MapAnswersAll-append a b c (q ∷ qs) ps [] ss h g = absurd h
-
 -- ---- exchanges
 
 -- nothing came, nothing was put, and nothing moved
-pub nothing_exchanged : (old new : Scene) → old.coming ≡ new.coming → new.put ≡ old.put → new.store.map ≡ old.store.map → ((device : ℕ) → new.store.counts device ≡ old.store.counts device) → ((device : ℕ) → number_at new.store.units device ≡ number_at old.store.units device) → Exchange old new [] []
-nothing_exchanged old new came put map counts units = record {
+pub nothing_exchanged : (old new : Scene) → old.coming ≡ new.coming → new.put ≡ old.put → new.store.pass ≡ old.store.pass → ((device : ℕ) → number_at new.store.units device ≡ number_at old.store.units device) → Exchange old new [] []
+nothing_exchanged old new came put pass units = record {
   requests = tt;
   came = came ∙ sym (prepend_known-nil new.coming);
   replies = put ∙ sym (append_known-nil old.put);
-  answers = map;
-  counts = CountsRose-none old.store.counts new.store.counts (λ device. 0) (λ device. refl) counts;
+  answers = PassAnswers-none old.store.pass new.store.pass pass;
   units = λ device. omega (arith, units device);
 }
 
@@ -65,8 +58,7 @@ exchange_one old new request reply fits came put answered = record {
   requests = (fits, tt);
   came = came ∙ ap (λ (t : List ℕ). prepend_known t new.coming) (sym (append-nil (spell_request request)));
   replies = put ∙ ap (append_known old.put) (sym (append-nil (spell_reply reply)));
-  answers = (new.store.map, answered.answer, refl);
-  counts = CountsRose-same old.store.counts new.store.counts (λ device. told_by device reply) (λ device. told_by_all device (reply ∷ [])) (λ device. omega arith) answered.counts;
+  answers = PassAnswers-one old.store.pass new.store.pass request reply answered.answer;
   units = λ device. omega (arith, answered.units device);
 }
 
@@ -75,8 +67,7 @@ Exchange-both old mid new qs ps rs ss h g = record {
   requests = all-append IsRequest qs ps h.requests g.requests;
   came = h.came ∙ ap (prepend_known (spell_requests qs)) g.came ∙ prepend_known-twice (spell_requests qs) (spell_requests ps) new.coming ∙ ap (λ (t : List ℕ). prepend_known t new.coming) (sym (spell_requests-append qs ps));
   replies = g.replies ∙ ap (λ (t : Option (List ℕ)). append_known t (spell_replies ss)) h.replies ∙ append_known-twice old.put (spell_replies rs) (spell_replies ss) ∙ ap (append_known old.put) (sym (spell_replies-append rs ss));
-  answers = MapAnswersAll-append old.store.map mid.store.map new.store.map qs ps rs ss h.answers g.answers;
-  counts = CountsRose-both old.store.counts mid.store.counts new.store.counts (λ device. told_by_all device rs) (λ device. told_by_all device ss) (λ device. told_by_all device (rs ++ ss)) (λ device. told_by_all-append device rs ss) h.counts g.counts;
+  answers = PassAnswers-both old.store.pass mid.store.pass new.store.pass qs ps rs ss h.answers g.answers;
   units = λ device. omega (arith, h.units device, g.units device, told_by_all-append device rs ss);
 }
 

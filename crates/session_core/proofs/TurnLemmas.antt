@@ -4,7 +4,7 @@ use Rattle.std.proofs.Common.{◌≡◌, ℕ, ◌<◌, ◌≤◌, List, [], ◌�
 use Rattle.std.specs.Io.KnownBytes.{prepend_known, append_known}
 use Rattle.std.proofs.lemmas.List.{append-nil, nil_from_length}
 use Rattle.history_core.specs.declared.request.Request.{Request}
-use Rattle.history_core.specs.declared.request.Request.TheVariants.{Put, Get, Quit}
+use Rattle.history_core.specs.declared.request.Request.TheVariants.{Put, Delete, Get, Sync, Quit}
 use Rattle.history_core.specs.declared.reply.Reply.{Reply}
 use Rattle.history_core.specs.declared.reply.Reply.TheVariants.{Bye, BadMessage}
 use Rattle.wire_protocol.specs.Grammar.{spell_request, spell_reply, spell_replies}
@@ -29,7 +29,7 @@ came_is old held came coming empty e = sym (prepend_known-nil came) ∙ sym (ap 
 
 -- only bytes were taken
 only_taken : (old held : Held) (before : Scene) (coming : Option (List ℕ)) → old.bytes ≡ [] → prepend_known held.bytes coming ≡ prepend_known old.bytes before.coming → Exchange before (before_taking held.bytes (after_taking coming before)) [] []
-only_taken old held before coming empty e = nothing_exchanged before (before_taking held.bytes (after_taking coming before)) (came_is old held before.coming coming empty e) refl refl (λ d. refl) (λ d. refl)
+only_taken old held before coming empty e = nothing_exchanged before (before_taking held.bytes (after_taking coming before)) (came_is old held before.coming coming empty e) refl refl (λ d. refl)
 
 so_far_at : (from at n : ℕ) (old new : Scene) → at ≡ from → SoFar from old new from n → SoFar from old new at n
 so_far_at from at n old new e s = subst (λ (k : ℕ). SoFar from old new k n) (sym e) s
@@ -54,7 +54,7 @@ input_ended end old new left coming room count takes none ends lacks few =
 pub turn_untaken : (end : SessionEnd) (old held : Held) (before : Scene) (coming : Option (List ℕ)) → old.bytes ≡ [] → prepend_known held.bytes coming ≡ prepend_known old.bytes before.coming → held.at ≡ old.at → MessageTaken (Err end) held coming → SessionEnds end old.at before (after_taking coming before) (decided_of end)
 turn_untaken End old held before coming empty e p (none, over, few) =
     let is : before.coming ≡ coming = came_is old held before.coming coming empty e ∙ ap (λ (h : List ℕ). prepend_known h coming) none ∙ prepend_known-nil coming in
-    (old.at, so_far_none old.at before (after_taking coming before) (nothing_exchanged before (after_taking coming before) is refl refl (λ d. refl) (λ d. refl)), over, omega (arith, few, p))
+    (old.at, so_far_none old.at before (after_taking coming before) (nothing_exchanged before (after_taking coming before) is refl refl (λ d. refl)), over, omega (arith, few, p))
 turn_untaken (Cut at) old held before coming empty e p (same, some, lacks, over, few) =
     let so_far = so_far_none old.at before (before_taking held.bytes (after_taking coming before)) (only_taken old held before coming empty e) in
     (held.bytes, so_far_at old.at at 0 before (before_taking held.bytes (after_taking coming before)) (same ∙ p) so_far, some, lacks, over, omega (arith, few, same))
@@ -72,7 +72,7 @@ request_came old held came coming request empty e is = came_is old held came com
 
 -- the scene before the refusal of a message was put
 unput : (old held : Held) (before after : Scene) → old.bytes ≡ [] → prepend_known held.bytes after.coming ≡ prepend_known old.bytes before.coming → after.store ≡ before.store → Exchange before (with_put before.put (before_taking held.bytes after)) [] []
-unput old held before after empty e same = nothing_exchanged before (with_put before.put (before_taking held.bytes after)) (came_is old held before.coming after.coming empty e) refl (ap (λ (s : StoreState). s.map) same) (λ d. ap (λ (s : StoreState). s.counts d) same) (λ d. ap (λ (s : StoreState). number_at s.units d) same)
+unput old held before after empty e same = nothing_exchanged before (with_put before.put (before_taking held.bytes after)) (came_is old held before.coming after.coming empty e) refl (ap (λ (s : StoreState). s.pass) same) (λ d. ap (λ (s : StoreState). number_at s.units d) same)
 
 pub turn_sent : (reply : Reply) (end : Option SessionEnd) (old held new : Held) (before after : Scene) → old.bytes ≡ [] → prepend_known held.bytes after.coming ≡ prepend_known old.bytes before.coming → held.at ≡ old.at → taken_of held ≤ SESSION_MAX → Comes reply end held before.store new after.store → after.put ≡ append_known before.put (spell_reply reply) → TurnOut end old new before after
 turn_sent reply None old held new before after empty e p most (request, goes_on, a) put = record {
@@ -98,7 +98,9 @@ turn_sent reply (Some end) old held new before after empty e p most c put = absu
 -- one request quits or not, and then nothing is held
 one_quits : (request : Request) (held : List ℕ) → held ≡ [] → NoQuit (request ∷ []) ⊎ (EndsWithQuit (request ∷ []) × (held ≡ []))
 one_quits (Put row) held none = inl (refl, tt)
+one_quits (Delete key) held none = inl (refl, tt)
 one_quits (Get key) held none = inl (refl, tt)
+one_quits Sync held none = inl (refl, tt)
 one_quits Quit held none = inr (([], refl, tt), none)
 
 -- the sink took a front of the reply to a request

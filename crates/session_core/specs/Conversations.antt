@@ -4,7 +4,7 @@ use Rattle.std.specs.List.{AllByRecursion}
 use Rattle.std.specs.Io.KnownBytes.{prepend_known, append_known}
 use Rattle.disk_model.specs.Piles.{Units, number_at}
 use Rattle.history_core.specs.declared.request.Request.{Request}
-use Rattle.history_core.specs.declared.request.Request.TheVariants.{Put, Get, Quit}
+use Rattle.history_core.specs.declared.request.Request.TheVariants.{Put, Delete, Get, Sync, Quit}
 use Rattle.history_core.specs.declared.reply.Reply.{Reply}
 use Rattle.history_core.specs.declared.reply.Reply.TheVariants.{Bye, BadMessage}
 use Rattle.wire_protocol.specs.Grammar.{spell_requests, spell_reply, spell_replies, IsRequest}
@@ -13,11 +13,12 @@ use Rattle.wire_protocol.specs.Decoding.{refusal}
 use Rattle.session_core.specs.declared.limits.TheConstants.{SESSION_MAX}
 use Rattle.session_core.specs.declared.session_end.SessionEnd.{SessionEnd}
 use Rattle.session_core.specs.declared.session_end.SessionEnd.TheVariants.{End, Quit as Quitted, Bad, Cut, Spent, SourceFault, SinkFault, Memory}
-use Rattle.session_core.specs.PlainMap.{MapState, MapAnswersAll}
+use Rattle.history_core.specs.Passes.{PassState}
+use Rattle.session_core.specs.Answering.{PassAnswers}
 use Rattle.link_model.specs.declared.source.Source as sources
 use Rattle.link_model.specs.declared.sink.Sink as sinks
 use Rattle.session_core.specs.declared.answers.Answers as stores
-use Rattle.session_core.specs.Telling.{told_by_all, CountsRose, StoreState, store_of}
+use Rattle.session_core.specs.Telling.{told_by_all, StoreState, store_of}
 
 -- what a session meets: the bytes to come and the bytes put, where contracts can see them, and the store
 pub record Scene : Type 0 where
@@ -26,12 +27,9 @@ pub record Scene : Type 0 where
   pub store : StoreState
 
 -- a scene of these parts
-abbrev pub scene_of : Option (List ℕ) → Option (List ℕ) → MapState → (ℕ → ℕ) → List (Option Units) → Scene
-scene_of coming put map counts units = record {
-  coming = coming;
-  put = put;
-  store = record { map = map; counts = counts; units = units };
-}
+abbrev pub scene_of : Option (List ℕ) → Option (List ℕ) → PassState → List (Option Units) → Scene
+scene_of coming put pass units =
+    record { coming = coming; put = put; store = record { pass = pass; units = units } }
 
 -- the scene of a store, a source and a sink that stand so, with these units
 abbrev pub scene_at : {A Pass R W : Type 0} → stores.Ghosts A Pass → sources.Ghosts R → sinks.Ghosts W →
@@ -47,20 +45,21 @@ before_taking held scene = record scene { coming = prepend_known held scene.comi
 abbrev pub with_put : Option (List ℕ) → Scene → Scene
 with_put put scene = record scene { put = put }
 
--- these requests came and these replies were put, in order, as the map answers them
+-- these requests came and these replies were put, in order, and the replies tell how the pass moved
 pub record Exchange (old new : Scene) (asked : List Request) (answered : List Reply) : Type 0 where
   pub requests : AllByRecursion IsRequest asked
   pub came : old.coming ≡ prepend_known (spell_requests asked) new.coming
   pub replies : new.put ≡ append_known old.put (spell_replies answered)
-  pub answers : MapAnswersAll old.store.map asked answered new.store.map
-  pub counts : CountsRose old.store.counts new.store.counts (λ device. told_by_all device answered)
+  pub answers : PassAnswers old.store.pass asked answered new.store.pass
   pub units : (device : ℕ) →
       number_at new.store.units device ≡ number_at old.store.units device + told_by_all device answered
 
 -- the request asks the session to end
 abbrev pub is_quit : Request → Bool
 is_quit (Put row) = false
+is_quit (Delete key) = false
 is_quit (Get key) = false
+is_quit Sync = false
 is_quit Quit = true
 
 -- none of these asks the session to end

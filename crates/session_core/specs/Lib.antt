@@ -1,4 +1,4 @@
-pub mod PlainMap
+pub mod Answering
 pub mod Refusals
 pub mod StoreCalls
 pub mod Telling

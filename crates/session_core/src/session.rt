@@ -46,7 +46,6 @@ fn turn<A: Answers, R: Source, W: Sink>(
 ) -> Option<SessionEnd>
     requires start { rooms.old.decoder.bytes ≡ [] }
     requires spent { rooms.old.decoder.at ≤ SESSION_MAX }
-    requires number { (A.map pass.old).number ≤ rooms.old.decoder.at }
     requires few { AreAtMost rooms.old.decoder.at faults.old }
     requires books { AreOf A.books faults.old }
 
@@ -117,9 +116,7 @@ pub fn run_session<A: Answers, R: Source, W: Sink>(
     source: &mut R,
     sink: &mut W,
 ) -> SessionOut
-    requires { (A.map pass.old).number ≡ 0 }
-
-    // What came, what was put, what the map is then, and which failures were told.
+    // What came, what was put, what the pass then knows, and which failures were told.
     ensures out { SessionEnds result.end 0
         (scene_at A.Answers R.Source W.Sink pass.old source.old sink.old [])
         (scene_at A.Answers R.Source W.Sink pass.new source.new sink.new result.faults)

@@ -133,7 +133,8 @@ impl<S: Strip> Segment<S> {
 
     /// The number after its last entry.
     pub fn end(&self) -> u64
-        ensures { result ≡ self.now.first + length self.now.entries }
+        ensures number { result ≡ self.now.first + length self.now.entries }
+        ensures most { result ≤ NUMBER_MAX }
     {
         self.tell_images();
         self.batch.end()

@@ -1,5 +1,5 @@
 //! The bytes of a segment, written out by hand; each device call failing alone; and each refusal of an opening.
-use crate::{PENDING_MAX, Segment};
+use crate::{LogError, PENDING_MAX, Segment};
 use disk_model::{DeviceError, MemoryStrip};
 use rdb_base::{Change, Entry, Key, NUMBER_MAX, Value};
 use std::alloc::Global;
@@ -45,19 +45,30 @@ fn flush(alloc: Global, segment: &mut Segment<MemoryStrip>) -> Result<Option<u64
     }
 }
 
-fn opened(alloc: Global, strip: MemoryStrip) -> Option<(Segment<MemoryStrip>, Vec<Entry>)> {
-    Segment::open(alloc, strip, 0, 0).ok()
+fn open(
+    alloc: Global,
+    strip: MemoryStrip,
+) -> Result<(Segment<MemoryStrip>, Vec<Entry>), (MemoryStrip, LogError)> {
+    Segment::open(alloc, strip, 0, 0)
+}
+
+fn start(alloc: Global, segment: &mut Segment<MemoryStrip>) -> Result<(), DeviceError> {
+    segment.start(alloc)
+}
+
+fn back(segment: Segment<MemoryStrip>) -> MemoryStrip {
+    segment.into_strip()
 }
 
 /// The segment of an empty strip, started.
 fn started(alloc: Global) -> Result<Segment<MemoryStrip>, Fail> {
-    let Some((mut segment, _entries)) = opened(alloc, strip_of(alloc, b"", &[])?) else {
+    let Ok((mut segment, _entries)) = open(alloc, strip_of(alloc, b"", &[])?) else {
         return Err("an empty strip is opened")?;
     };
     if segment.is_started() {
         return Err("no header stands there")?;
     }
-    segment.start(alloc)?;
+    start(alloc, &mut segment)?;
     Ok(segment)
 }
 
@@ -74,8 +85,7 @@ fn a_put_that_is_flushed_has_these_bytes(rt: HostRuntime) -> Result<(), Fail> {
     assert_eq!(rt; state_of(&segment), (20, 1));
     assert_eq!(rt; flush(rt.alloc(), &mut segment)?, Some(1));
     assert_eq!(rt; state_of(&segment), (0, 1));
-    let strip = segment.into_strip();
-    assert_eq!(rt; strip.as_bytes(), ONE);
+    assert_eq!(rt; back(segment).as_bytes(), ONE);
     Ok(())
 }
 
@@ -93,7 +103,7 @@ fn changed(alloc: Global, at: usize, bytes: &[u8]) -> Result<Vec<u8>, Fail> {
 fn refusal(alloc: Global, at: usize, bytes: &[u8]) -> Result<String, Fail> {
     let made = changed(alloc, at, bytes)?;
     let strip = strip_of(alloc, made.as_slice(), &[])?;
-    let Some((_strip, error)) = Segment::open(alloc, strip, 0, 0).err() else {
+    let Err((_strip, error)) = open(alloc, strip) else {
         return Err("it was opened")?;
     };
     Ok(format!(in alloc; "{error}")?)
@@ -146,7 +156,7 @@ fn pushed_and_synced(
     segment: &mut Segment<MemoryStrip>,
     entries: &[Entry; 2],
 ) -> Result<(usize, usize), Fail> {
-    if segment.start(alloc).is_err() {
+    if start(alloc, segment).is_err() {
         return Ok((0, 0));
     }
     if !push_and_flush(alloc, segment, &entries[0])? {
@@ -160,7 +170,7 @@ fn pushed_and_synced(
 
 /// The same of a strip that is opened first.
 fn until_a_fault(alloc: Global, strip: MemoryStrip, entries: &[Entry; 2]) -> Result<Stopped, Fail> {
-    let mut segment = match Segment::open(alloc, strip, 0, 0) {
+    let mut segment = match open(alloc, strip) {
         Ok((segment, _entries)) => segment,
         Err((strip, _error)) => return Ok(Stopped {
             strip,
@@ -170,7 +180,7 @@ fn until_a_fault(alloc: Global, strip: MemoryStrip, entries: &[Entry; 2]) -> Res
     };
     let (pushed, synced) = pushed_and_synced(alloc, &mut segment, entries)?;
     Ok(Stopped {
-        strip: segment.into_strip(),
+        strip: back(segment),
         synced,
         pushed,
     })
@@ -178,7 +188,7 @@ fn until_a_fault(alloc: Global, strip: MemoryStrip, entries: &[Entry; 2]) -> Res
 
 /// How many entries a strip has.
 fn count_on(alloc: Global, strip: MemoryStrip) -> Result<usize, Fail> {
-    let Some((_segment, entries)) = opened(alloc, strip) else {
+    let Ok((_segment, entries)) = open(alloc, strip) else {
         return Err("the strip is a segment's")?;
     };
     Ok(entries.len())

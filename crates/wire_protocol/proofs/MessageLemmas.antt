@@ -12,7 +12,7 @@ use Rattle.std.proofs.lemmas.Bool.Decides.{nat_tests}
 use Rattle.std.proofs.lemmas.List.{append-nil, take-append-drop, length-append, length-take, length-drop, take_at, drop_at, take-append-le}
 use Rattle.std.proofs.lemmas.Nat.{be_bytes_4, from_be_bytes-to_be_bytes_4}
 use Rattle.history_core.specs.declared.request.Request.{Request}
-use Rattle.history_core.specs.declared.request.Request.TheVariants.{Put, Get, Quit}
+use Rattle.history_core.specs.declared.request.Request.TheVariants.{Put, Delete, Get, Sync, Quit}
 use Rattle.rdb_base.specs.Bytes.{AreBytes}
 use Rattle.wire_protocol.specs.Grammar.{request_body, spell_request, spell_requests, message, IsRequest}
 use Rattle.wire_protocol.specs.Reading.{request_at, Fails, SpellsRequest}
@@ -46,7 +46,9 @@ IsShort body = length body < 2 ^ 32
 
 body_short : (request : Request) → IsRequest request → IsShort (request_body request)
 body_short (Put row) fits = omega (arith, length-append row.key (to_be_bytes w32 (length row.value) ++ row.value), fits.0, fits.1)
+body_short (Delete key) fits = omega (arith, fits)
 body_short (Get key) fits = omega (arith, fits)
+body_short Sync fits = omega arith
 body_short Quit fits = omega arith
 
 -- where two messages stand at one front they are one
@@ -78,7 +80,7 @@ refused_answer held rest w n (bodies.Bad code) r whole a z f ne le fails memory 
     (sym a ∙ z, rw (lawful, read) refl, within)
 refused_answer held rest w n bodies.Memory r whole a z f ne le fails memory within =
     let s = memory refl in
-    (s.0, whole ∙ ap message s.1, s.2, s.3)
+    (s.0, whole ∙ ap message s.1, s.2, s.3, s.4)
 
 -- ---- a spelling at the front of bytes
 
@@ -87,6 +89,8 @@ spelled_length request more fits = from_be_bytes-to_be_bytes_4 (length (request_
 
 body_lawful : (request : Request) → IsRequest request → is_refused_length (length (request_body request)) ≡ false
 body_lawful (Put row) fits = lawful_length (length (request_body (Put row))) (λ e. absurd (omega (arith, e))) (omega (arith, length-append row.key (to_be_bytes w32 (length row.value) ++ row.value), fits.0, fits.1))
+body_lawful (Delete key) fits = lawful_length (length (request_body (Delete key))) (λ e. absurd (omega (arith, e))) (omega (arith, fits))
+body_lawful Sync fits = refl
 body_lawful (Get key) fits = lawful_length (length (request_body (Get key))) (λ e. absurd (omega (arith, e))) (omega (arith, fits))
 body_lawful Quit fits = refl
 

@@ -9,11 +9,11 @@ use Rattle.std.proofs.lemmas.List.{take_at, drop_at, take-append-drop, length-ap
 use Rattle.std.proofs.lemmas.Nat.{be_bytes_2, be_bytes_4, from_be_bytes-to_be_bytes_2, from_be_bytes-to_be_bytes_4}
 use Rattle.rdb_base.specs.Lengths.{IsKeyLength, IsValueLength}
 use Rattle.history_core.specs.declared.request.Request.{Request}
-use Rattle.history_core.specs.declared.request.Request.TheVariants.{Put, Get, Quit}
+use Rattle.history_core.specs.declared.request.Request.TheVariants.{Put, Delete, Get, Sync, Quit}
 use Rattle.wire_protocol.specs.declared.codes.TheConstants as codes
 use Rattle.rdb_base.specs.Bytes.{AreBytes}
 use Rattle.wire_protocol.specs.Grammar.{key_field, value_field, request_body, IsRequest}
-use Rattle.wire_protocol.specs.Reading.{◌>>=◌, number_at, bytes_at, key_at, value_at, ended, put_at, get_at, request_at}
+use Rattle.wire_protocol.specs.Reading.{◌>>=◌, number_at, bytes_at, key_at, value_at, ended, only_key_at, keyed_at, put_at, request_at}
 
 AreBytes-drop : (n : ℕ) (bytes : List ℕ) → AreBytes bytes → AreBytes (drop n bytes)
 AreBytes-drop n bytes h i = rw get_or-drop (h (n + i))
@@ -165,9 +165,9 @@ record Spells (rest : List ℕ) (fields : Request → List ℕ) (request : Reque
   pub parts : rest ≡ fields request
   pub fits : IsRequest request
 
-ended_takes : (asked request : Request) (rest : List ℕ) → ended asked rest ≡ Ok request → (asked ≡ request) × (rest ≡ [])
-ended_takes asked request rest e =
-    let p = held_at_end (eqb (length rest) 0) codes.TRAILING_BYTES asked request e in
+ended_takes : {A : Type 0} (asked read : A) (rest : List ℕ) → ended asked rest ≡ Ok read → (asked ≡ read) × (rest ≡ [])
+ended_takes asked read rest e =
+    let p = held_at_end (eqb (length rest) 0) codes.TRAILING_BYTES asked read e in
     (p.1, nil_from_length rest (eqb-true _ _ p.0))
 
 put_takes : (bytes : List ℕ) (request : Request) → AreBytes bytes → put_at bytes ≡ Ok request → (codes.PUT ∷ bytes ≡ request_body request) × IsRequest request
@@ -182,43 +182,84 @@ put_takes bytes request fits e =
     let whole : bytes ≡ key_field a.0.0 ++ value_field b.0.0 = both.parts ∙ ap (λ (t : List ℕ). (key_field a.0.0 ++ value_field b.0.0) ++ t) c.1 ∙ append-nil (key_field a.0.0 ++ value_field b.0.0) in
     subst (λ (r : Request). (codes.PUT ∷ bytes ≡ request_body r) × IsRequest r) c.0 (ap (λ (t : List ℕ). codes.PUT ∷ t) whole, (one.1, two.1))
 
-get_takes : (bytes : List ℕ) (request : Request) → AreBytes bytes → get_at bytes ≡ Ok request → (codes.GET ∷ bytes ≡ request_body request) × IsRequest request
-unfolding get_at
-get_takes bytes request fits e =
-    let a = went_well (key_at bytes) (λ key. ended (Get key.0) key.1) request e in
-    let c = ended_takes (Get a.0.0) request a.0.1 a.2 in
+only_key_takes : (bytes key : List ℕ) → AreBytes bytes → only_key_at bytes ≡ Ok key → (bytes ≡ key_field key) × IsKeyLength (length key)
+unfolding only_key_at
+only_key_takes bytes key fits e =
+    let a = went_well (key_at bytes) (λ read. ended read.0 read.1) key e in
+    let c = ended_takes a.0.0 key a.0.1 a.2 in
     let one = key_takes bytes a.0 fits a.1 in
     let whole : bytes ≡ key_field a.0.0 = one.0.parts ∙ ap (λ (t : List ℕ). key_field a.0.0 ++ t) c.1 ∙ append-nil (key_field a.0.0) in
-    subst (λ (r : Request). (codes.GET ∷ bytes ≡ request_body r) × IsRequest r) c.0 (ap (λ (t : List ℕ). codes.GET ∷ t) whole, one.1)
+    subst (λ (k : List ℕ). (bytes ≡ key_field k) × IsKeyLength (length k)) c.0 (whole, one.1)
+
+-- a request that names one key
+keyed_takes : (asked : List ℕ → Request) (code : ℕ) (bytes : List ℕ) (request : Request) → ((key : List ℕ) → request_body (asked key) ≡ code ∷ key_field key) → ((key : List ℕ) → IsKeyLength (length key) → IsRequest (asked key)) → AreBytes bytes → keyed_at asked bytes ≡ Ok request → (code ∷ bytes ≡ request_body request) × IsRequest request
+keyed_takes asked code bytes request body is fits e =
+    let a = went_well (only_key_at bytes) (λ key. good (asked key)) request e in
+    let one = only_key_takes bytes a.0 fits a.1 in
+    let whole : code ∷ bytes ≡ request_body (asked a.0) = ap (λ (t : List ℕ). code ∷ t) one.0 ∙ sym (body a.0) in
+    subst (λ (r : Request). (code ∷ bytes ≡ request_body r) × IsRequest r) (good_is (asked a.0) request a.2) (whole, is a.0 one.1)
+
+-- a request that is its code alone
+bare_takes : (asked : Request) (code : ℕ) (rest : List ℕ) (request : Request) → request_body asked ≡ code ∷ [] → IsRequest asked → ended asked rest ≡ Ok request → (code ∷ rest ≡ request_body request) × IsRequest request
+bare_takes asked code rest request body is e =
+    let c = ended_takes asked request rest e in
+    let whole : code ∷ rest ≡ request_body asked = ap (λ (t : List ℕ). code ∷ t) c.1 ∙ sym body in
+    subst (λ (r : Request). (code ∷ rest ≡ request_body r) × IsRequest r) c.0 (whole, is)
+
+-- the reading of a code and its fields: what the fields read as where they follow that code, or else by another code
+abbrev by_code : ℕ → ℕ → Result Request ℕ → Result Request ℕ → Result Request ℕ
+by_code code one read other = cond (eqb code one) read other
 
 -- what is read is spelled so
 pub request_takes : (body : List ℕ) (request : Request) → AreBytes body → request_at body ≡ Ok request → (body ≡ request_body request) × IsRequest request
 unfolding request_at
 request_takes [] request fits e = absurd cc
 request_takes (code ∷ rest) request fits e =
-    let rest_fits = AreBytes-rest code rest fits in
-    elim (chosen (eqb code codes.PUT) (put_at rest) (cond (eqb code codes.GET) (get_at rest) (cond (eqb code codes.QUIT) (ended Quit rest) (Err codes.NO_REQUEST))) (Ok request) e) [
-      | inl p ↦ rw (eqb-true _ _ p.0) (put_takes rest request rest_fits p.1)
-      | inr p ↦ elim (chosen (eqb code codes.GET) (get_at rest) (cond (eqb code codes.QUIT) (ended Quit rest) (Err codes.NO_REQUEST)) (Ok request) p.1) [
-        | inl q ↦ rw (eqb-true _ _ q.0) (get_takes rest request rest_fits q.1)
-        | inr q ↦
-            let h = held_quit (eqb code codes.QUIT) q.1 in
-            let c = ended_takes Quit request rest h.1 in
-            rw (eqb-true _ _ h.0, c.1, ← c.0) (refl, tt)
-      ]
-    ]
+    either codes.PUT (put_at rest) after_put (put_takes rest request rest_fits) (
+    either codes.DELETE (keyed_at Delete rest) after_delete (keyed_takes Delete codes.DELETE rest request (λ key. refl) (λ key is. is) rest_fits) (
+    either codes.GET (keyed_at Get rest) after_get (keyed_takes Get codes.GET rest request (λ key. refl) (λ key is. is) rest_fits) (
+    either codes.SYNC (ended Sync rest) after_sync (bare_takes Sync codes.SYNC rest request refl tt) (
+    either codes.QUIT (ended Quit rest) (Err codes.NO_REQUEST) (bare_takes Quit codes.QUIT rest request refl tt) (λ f. absurd (no_ok f)))))) e
   where
-    held_quit : (b : Bool) → cond b (ended Quit rest) (Err codes.NO_REQUEST) ≡ Ok request → (b ≡ true) × (ended Quit rest ≡ Ok request)
-    held_quit true e = (refl, e)
-    held_quit false e = absurd cc
+    rest_fits : AreBytes rest
+    rest_fits = AreBytes-rest code rest fits
+
+    after_sync : Result Request ℕ
+    after_sync = by_code code codes.QUIT (ended Quit rest) (Err codes.NO_REQUEST)
+
+    after_get : Result Request ℕ
+    after_get = by_code code codes.SYNC (ended Sync rest) after_sync
+
+    after_delete : Result Request ℕ
+    after_delete = by_code code codes.GET (keyed_at Get rest) after_get
+
+    after_put : Result Request ℕ
+    after_put = by_code code codes.DELETE (keyed_at Delete rest) after_delete
+
+    no_ok : {n : ℕ} → Err n ≡ good request → ⊥
+    no_ok f = absurd cc
+
+    either : (one : ℕ) (read other : Result Request ℕ) → (read ≡ Ok request → (one ∷ rest ≡ request_body request) × IsRequest request)
+        → (other ≡ Ok request → (code ∷ rest ≡ request_body request) × IsRequest request) → by_code code one read other ≡ Ok request → (code ∷ rest ≡ request_body request) × IsRequest request
+    either one read other this that f =
+        elim (chosen (eqb code one) read other (Ok request) f) [
+          | inl p ↦ rw (eqb-true _ _ p.0) (this p.1)
+          | inr p ↦ that p.1
+        ]
+
+only_key_again : (key : List ℕ) → IsKeyLength (length key) → only_key_at (key_field key) ≡ Ok key
+unfolding only_key_at
+only_key_again key fits =
+    let k : key_at (key_field key) ≡ Ok (key, []) = ap key_at (sym (append-nil (key_field key))) ∙ key_again key [] fits in
+    rw k refl
 
 -- what is spelled so is read
 pub request_again : (request : Request) → IsRequest request → request_at (request_body request) ≡ Ok request
-unfolding request_at put_at get_at
+unfolding request_at put_at
 request_again (Put row) fits =
     let value : value_at (value_field row.value) ≡ Ok (row.value, []) = ap value_at (sym (append-nil (value_field row.value))) ∙ value_again row.value [] fits.1 in
     rw (key_again row.key (value_field row.value) fits.0, value) refl
-request_again (Get key) fits =
-    let k : key_at (key_field key) ≡ Ok (key, []) = ap key_at (sym (append-nil (key_field key))) ∙ key_again key [] fits in
-    rw k refl
+request_again (Delete key) fits = rw (only_key_again key fits) refl
+request_again (Get key) fits = rw (only_key_again key fits) refl
+request_again Sync fits = refl
 request_again Quit fits = refl

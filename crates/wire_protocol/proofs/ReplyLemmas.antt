@@ -4,7 +4,7 @@ use Rattle.std.specs.Int.{w32, w64, from_be_bytes, to_be_bytes}
 use Rattle.std.proofs.lemmas.List.{length-append}
 use Rattle.std.proofs.lemmas.Nat.{from_be_bytes-to_be_bytes_8}
 use Rattle.history_core.specs.declared.reply.Reply.{Reply}
-use Rattle.history_core.specs.declared.reply.Reply.TheVariants.{Done, Value, Absent, Bye, BadMessage, DeviceFault, OutOfMemory}
+use Rattle.history_core.specs.declared.reply.Reply.TheVariants.{Done, Value, Absent, Synced, Bye, BadMessage, DeviceFault, OutOfMemory, HistorySpent, NumbersSpent}
 use Rattle.wire_protocol.specs.declared.codes.TheConstants as codes
 use Rattle.wire_protocol.specs.Grammar.{reply_body, spell_reply, value_field}
 use Rattle.wire_protocol.specs.Laws.{IsReply}
@@ -14,10 +14,13 @@ reply_short : (reply : Reply) → IsReply reply → IsShort (reply_body reply)
 reply_short (Done number) fits = omega arith
 reply_short (Value front value) fits = omega (arith, fits.1, length-append (to_be_bytes w64 front) (to_be_bytes w32 (length value) ++ value))
 reply_short (Absent front) fits = omega arith
+reply_short (Synced number) fits = omega arith
 reply_short Bye fits = omega arith
 reply_short (BadMessage at code) fits = omega (arith, length-append (to_be_bytes w64 at) (code ∷ []))
 reply_short (DeviceFault device) fits = omega arith
 reply_short OutOfMemory fits = omega arith
+reply_short (HistorySpent number) fits = omega arith
+reply_short (NumbersSpent next) fits = omega arith
 
 tails : (a b : ℕ) (xs ys : List ℕ) → a ∷ xs ≡ b ∷ ys → xs ≡ ys
 tails a b xs ys e = cc
@@ -48,6 +51,7 @@ same_body (Value f v) (Value g w) fm fn e =
     both : (f g : ℕ) (v w : List ℕ) → f ≡ g → v ≡ w → Value f v ≡ Value g w
     both f g v w a b = cc
 same_body (Absent m) (Absent n) fm fn e = ap Absent (number_alone m n fm fn (tails codes.ABSENT codes.ABSENT (to_be_bytes w64 m) (to_be_bytes w64 n) e))
+same_body (Synced m) (Synced n) fm fn e = ap Synced (number_alone m n fm fn (tails codes.SYNCED codes.SYNCED (to_be_bytes w64 m) (to_be_bytes w64 n) e))
 same_body Bye Bye fm fn e = refl
 same_body (BadMessage m c) (BadMessage n d) fm fn e =
     let s = same_number m n (c ∷ []) (d ∷ []) fm fn (tails codes.BAD_MESSAGE codes.BAD_MESSAGE (to_be_bytes w64 m ++ c ∷ []) (to_be_bytes w64 n ++ d ∷ []) e) in
@@ -57,6 +61,8 @@ same_body (BadMessage m c) (BadMessage n d) fm fn e =
     both m n c d a b = cc
 same_body (DeviceFault c) (DeviceFault d) fm fn e = cc
 same_body OutOfMemory OutOfMemory fm fn e = refl
+same_body (HistorySpent m) (HistorySpent n) fm fn e = ap HistorySpent (number_alone m n fm fn (tails codes.HISTORY_SPENT codes.HISTORY_SPENT (to_be_bytes w64 m) (to_be_bytes w64 n) e))
+same_body (NumbersSpent m) (NumbersSpent n) fm fn e = ap NumbersSpent (number_alone m n fm fn (tails codes.NUMBERS_SPENT codes.NUMBERS_SPENT (to_be_bytes w64 m) (to_be_bytes w64 n) e))
 same_body one other fm fn e = absurd (omega (arith, ap code_of e))
 
 -- two replies at the front of the same bytes are one, and the same bytes follow

@@ -2,7 +2,7 @@
 use Rattle.std.specs.Prelude.{◌≡◌, ◌≢◌, ℕ, ◌+◌, ◌≤◌, ◌<◌, List, [], length, drop, Option, Some, None, Result, Ok, Err, IfSome, ◌++◌, if◌then◌else◌}
 use Rattle.std.specs.Io.KnownBytes.{prepend_known}
 use Rattle.history_core.specs.declared.request.Request.{Request}
-use Rattle.history_core.specs.declared.request.Request.TheVariants.{Quit}
+use Rattle.history_core.specs.declared.request.Request.TheVariants.{Sync, Quit}
 use Rattle.wire_protocol.specs.declared.codes.TheConstants as codes
 use Rattle.wire_protocol.specs.declared.limits.TheConstants.{LENGTH_SIZE}
 use Rattle.wire_protocol.specs.declared.wire_error.WireError.{WireError}
@@ -28,9 +28,10 @@ refusal bytes =
     if is_refused_length (body_length bytes) then Some codes.BAD_LENGTH
     else code_of (request_at (drop LENGTH_SIZE bytes))
 
--- the spelling of a request that holds bytes of its own
+-- the spelling of a request that holds bytes of its own: one that names a key
 abbrev pub SpellsHolding : List ℕ → Type 0
-SpellsHolding bytes = (request : Request) × (bytes ≡ spell_request request) × IsRequest request × (request ≢ Quit)
+SpellsHolding bytes =
+    (request : Request) × (bytes ≡ spell_request request) × IsRequest request × (request ≢ Sync) × (request ≢ Quit)
 
 -- what was read of the bytes held of a message
 abbrev pub MessageAnswer : Result (Option Request) BodyError → List ℕ → Type 0

@@ -3,7 +3,7 @@ use Rattle.std.specs.Prelude.{◌≡◌, ℕ, ◌<◌, ◌^◌, List, ◌++◌, 
 use Rattle.rdb_base.specs.Lengths.{IsValueLength}
 use Rattle.history_core.specs.declared.request.Request.{Request}
 use Rattle.history_core.specs.declared.reply.Reply.{Reply}
-use Rattle.history_core.specs.declared.reply.Reply.TheVariants.{Done, Value, Absent, Bye, BadMessage, DeviceFault, OutOfMemory}
+use Rattle.history_core.specs.declared.reply.Reply.TheVariants.{Done, Value, Absent, Synced, Bye, BadMessage, DeviceFault, OutOfMemory, HistorySpent, NumbersSpent}
 use Rattle.wire_protocol.specs.Grammar.{request_body, spell_request, spell_reply, IsRequest}
 use Rattle.wire_protocol.specs.Reading.{request_at}
 use Rattle.wire_protocol.specs.Messages.{wanted}
@@ -26,10 +26,13 @@ abbrev pub IsReply : Reply → Type 0
 IsReply (Done number) = number < 2 ^ 64
 IsReply (Value front value) = (front < 2 ^ 64) × IsValueLength (length value)
 IsReply (Absent front) = front < 2 ^ 64
+IsReply (Synced number) = number < 2 ^ 64
 IsReply Bye = Unit {0}
 IsReply (BadMessage at code) = at < 2 ^ 64
 IsReply (DeviceFault device) = Unit {0}
 IsReply OutOfMemory = Unit {0}
+IsReply (HistorySpent number) = number < 2 ^ 64
+IsReply (NumbersSpent next) = next < 2 ^ 64
 
 -- two replies at the front of the same bytes are one reply, and the same bytes follow
 abbrev pub RepliesAreApart : Type 0

@@ -3,7 +3,7 @@ use Rattle.std.specs.Prelude.{◌≡◌, ◌≢◌, ℕ, List, [], ◌∷◌, le
 use Rattle.std.specs.Int.{Width, w16, w32, byte_len, from_be_bytes}
 use Rattle.rdb_base.specs.declared.limits.TheConstants.{KEY_MAX, VALUE_MAX}
 use Rattle.history_core.specs.declared.request.Request.{Request}
-use Rattle.history_core.specs.declared.request.Request.TheVariants.{Put, Get, Quit}
+use Rattle.history_core.specs.declared.request.Request.TheVariants.{Put, Delete, Get, Sync, Quit}
 use Rattle.wire_protocol.specs.declared.body_error.BodyError.{BodyError}
 use Rattle.wire_protocol.specs.declared.refused.Refused.{Refused}
 use Rattle.wire_protocol.specs.declared.codes.TheConstants as codes
@@ -54,8 +54,14 @@ value_at bytes = do
   if nat_lt VALUE_MAX n.0 then Err codes.BAD_VALUE else bytes_at n.0 n.1
 
 -- nothing may follow the last field
-abbrev pub ended : Request → List ℕ → Result Request ℕ
-ended request rest = if length rest == 0 then Ok request else Err codes.TRAILING_BYTES
+abbrev pub ended : {A : Type 0} → A → List ℕ → Result A ℕ
+ended read rest = if length rest == 0 then Ok read else Err codes.TRAILING_BYTES
+
+-- a key, and nothing after it
+unfoldable pub only_key_at : List ℕ → Result (List ℕ) ℕ
+only_key_at bytes = do
+  key ← key_at bytes
+  ended key.0 key.1
 
 -- the fields of a put
 unfoldable pub put_at : List ℕ → Result Request ℕ
@@ -64,21 +70,24 @@ put_at bytes = do
   value ← value_at key.1
   ended (Put (record { key = key.0; value = value.0 })) value.1
 
--- the fields of a get
-unfoldable pub get_at : List ℕ → Result Request ℕ
-get_at bytes = do
-  key ← key_at bytes
-  ended (Get key.0) key.1
+-- the one key that a request names
+abbrev pub keyed_at : (List ℕ → Request) → List ℕ → Result Request ℕ
+keyed_at asked bytes = do
+  key ← only_key_at bytes
+  Ok (asked key)
 
 -- a body, by its code
 unfoldable pub request_at : List ℕ → Result Request ℕ
 request_at [] = Err codes.BAD_LENGTH
 request_at (code ∷ rest) =
     if code == codes.PUT then put_at rest
-    else if code == codes.GET then get_at rest
+    else if code == codes.DELETE then keyed_at Delete rest
+    else if code == codes.GET then keyed_at Get rest
+    else if code == codes.SYNC then ended Sync rest
     else if code == codes.QUIT then ended Quit rest
     else Err codes.NO_REQUEST
 
--- it spells a request that holds bytes of its own
+-- it spells a request that holds bytes of its own: one that names a key
 abbrev pub SpellsRequest : List ℕ → Type 0
-SpellsRequest body = (request : Request) × (body ≡ request_body request) × IsRequest request × (request ≢ Quit)
+SpellsRequest body =
+    (request : Request) × (body ≡ request_body request) × IsRequest request × (request ≢ Sync) × (request ≢ Quit)

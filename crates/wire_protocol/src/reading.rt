@@ -1,13 +1,14 @@
 //! The fields of a body read from left to right, each test in its order.
 ghost use Rattle.std.specs.Prelude.{◌≡◌, [], ◌∷◌, IfOk, IsOk, IsErrOf, Ok};
 ghost use Rattle.std.specs.Int.{w16, w32};
-ghost use Rattle.wire_protocol.specs.Reading.{Gives, GivesField, SpellsRequest, number_at, bytes_at, key_at, value_at, put_at, get_at, request_at};
+ghost use Rattle.wire_protocol.specs.Reading.{Gives, GivesField, SpellsRequest, number_at, bytes_at, key_at, value_at, only_key_at, put_at, request_at};
 ghost use Rattle.wire_protocol.specs.Grammar.{request_body, IsRequest};
-ghost use Rattle.wire_protocol.specs.declared.codes.TheConstants.{QUIT};
+ghost use Rattle.wire_protocol.specs.declared.codes.TheConstants.{SYNC, QUIT};
 
 use crate::body_error::BodyError;
 use crate::codes::{
-    BAD_KEY, BAD_LENGTH, BAD_VALUE, CUT_FIELD, GET, NO_REQUEST, PUT, QUIT, TRAILING_BYTES,
+    BAD_KEY, BAD_LENGTH, BAD_VALUE, CUT_FIELD, DELETE, GET, NO_REQUEST, PUT, QUIT, SYNC,
+    TRAILING_BYTES,
 };
 use crate::refused::Refused;
 use history_core::Request;
@@ -94,10 +95,11 @@ fn put_of(alloc: Global, bytes: &[u8]) -> Result<Request, BodyError>
     })
 }
 
-#[tactic(auto, unfolding(crate::specs::Reading::get_at))]
-fn get_of(alloc: Global, bytes: &[u8]) -> Result<Request, BodyError>
-    ensures exact { Gives (λ x. x) result (get_at bytes.now) }
-    ensures memory { IsErrOf result BodyError.Memory → IsOk (get_at bytes.now) }
+/// The key that is all of a request's fields.
+#[tactic(auto, unfolding(crate::specs::Reading::only_key_at))]
+fn only_key_of(alloc: Global, bytes: &[u8]) -> Result<Key, BodyError>
+    ensures exact { Gives (λ x. x) result (only_key_at bytes.now) }
+    ensures memory { IsErrOf result BodyError.Memory → IsOk (only_key_at bytes.now) }
 {
     let (key, rest) = key_of(bytes)?;
     if !rest.is_empty() {
@@ -106,12 +108,13 @@ fn get_of(alloc: Global, bytes: &[u8]) -> Result<Request, BodyError>
     let Ok(key) = Key::try_new(alloc, key) else {
         return Err(BodyError::Memory);
     };
-    Ok(Request::Get { key })
+    Ok(key)
 }
 
 #[tactic(auto, unfolding(crate::specs::Reading::request_at))]
 fn body_of(alloc: Global, body: &[u8]) -> Result<Request, BodyError>
     ensures exact { Gives (λ x. x) result (request_at body.now) }
+    ensures sync { body.now ≡ SYNC ∷ [] → result ≡ Ok Request.Sync }
     ensures quit { body.now ≡ QUIT ∷ [] → result ≡ Ok Request.Quit }
     ensures memory { IsErrOf result BodyError.Memory → IsOk (request_at body.now) }
 {
@@ -120,13 +123,17 @@ fn body_of(alloc: Global, body: &[u8]) -> Result<Request, BodyError>
     };
     match *code {
         PUT => put_of(alloc, rest),
-        GET => get_of(alloc, rest),
-        QUIT => {
-            if !rest.is_empty() {
-                return Err(BodyError::Bad(TRAILING_BYTES));
-            }
-            Ok(Request::Quit)
+        DELETE => {
+            let key = only_key_of(alloc, rest)?;
+            Ok(Request::Delete { key })
         }
+        GET => {
+            let key = only_key_of(alloc, rest)?;
+            Ok(Request::Get { key })
+        }
+        SYNC if rest.is_empty() => Ok(Request::Sync),
+        QUIT if rest.is_empty() => Ok(Request::Quit),
+        SYNC | QUIT => Err(BodyError::Bad(TRAILING_BYTES)),
         _ => Err(BodyError::Bad(NO_REQUEST)),
     }
 }

@@ -8,9 +8,18 @@ use std::alloc::Global;
 use std::process::Abort;
 use std::test::Fail;
 
-/// PUT a=1, GET a, QUIT.
-const SCRIPT: &[u8] =
-    b"\x00\x00\x00\x09\x01\x00\x01a\x00\x00\x00\x011\x00\x00\x00\x04\x03\x00\x01a\x00\x00\x00\x01\x09";
+/// PUT a=1.
+const PUT: &[u8] = b"\x00\x00\x00\x09\x01\x00\x01a\x00\x00\x00\x011";
+
+/// DELETE a.
+const DELETE: &[u8] = b"\x00\x00\x00\x04\x02\x00\x01a";
+
+/// GET a.
+const GET: &[u8] = b"\x00\x00\x00\x04\x03\x00\x01a";
+
+const SYNC: &[u8] = b"\x00\x00\x00\x01\x04";
+
+const QUIT: &[u8] = b"\x00\x00\x00\x01\x09";
 
 fn put_of(alloc: Global, key: &[u8], value: &[u8]) -> Result<Request, Fail> {
     let key = Key::try_new(alloc, key)?;
@@ -18,6 +27,15 @@ fn put_of(alloc: Global, key: &[u8], value: &[u8]) -> Result<Request, Fail> {
     Ok(Request::Put {
         row: Row { key, value },
     })
+}
+
+/// Pieces, one after the other.
+fn concat(alloc: Global, pieces: &[&[u8]]) -> Result<Vec<u8>, Fail> {
+    let mut all = Vec::new(alloc);
+    for piece in pieces {
+        all.extend_from_slice(piece)?;
+    }
+    Ok(all)
 }
 
 /// Feeds a decoder at most so many of these bytes, and gives those that it did not take.
@@ -133,14 +151,20 @@ fn fills(
 #[test]
 fn a_script_is_read_however_it_is_cut(rt: HostRuntime) -> Result<(), Fail> {
     let alloc = rt.alloc();
-    let key = Key::try_new(alloc, b"a")?;
+    let script = concat(alloc, &[PUT, DELETE, GET, SYNC, QUIT])?;
     let want = vec![in alloc;
         put_of(alloc, b"a", b"1")?,
-        Request::Get { key },
+        Request::Delete {
+            key: Key::try_new(alloc, b"a")?
+        },
+        Request::Get {
+            key: Key::try_new(alloc, b"a")?
+        },
+        Request::Sync,
         Request::Quit,
     ]?;
-    for size in [1, 3, 26] {
-        reads_as(&rt, SCRIPT, size, &want)?;
+    for size in [1, 3, 39] {
+        reads_as(&rt, &script, size, &want)?;
     }
     Ok(())
 }
@@ -148,12 +172,13 @@ fn a_script_is_read_however_it_is_cut(rt: HostRuntime) -> Result<(), Fail> {
 #[test]
 fn each_request_has_its_bytes(rt: HostRuntime) -> Result<(), Fail> {
     let alloc = rt.alloc();
-    let (put, rest) = SCRIPT.split_at(13);
-    let (get, quit) = rest.split_at(8);
-    asks(&rt, &put_of(alloc, b"a", b"1")?, put)?;
+    asks(&rt, &put_of(alloc, b"a", b"1")?, PUT)?;
     let key = Key::try_new(alloc, b"a")?;
-    asks(&rt, &Request::Get { key }, get)?;
-    asks(&rt, &Request::Quit, quit)
+    asks(&rt, &Request::Delete { key }, DELETE)?;
+    let key = Key::try_new(alloc, b"a")?;
+    asks(&rt, &Request::Get { key }, GET)?;
+    asks(&rt, &Request::Sync, SYNC)?;
+    asks(&rt, &Request::Quit, QUIT)
 }
 
 #[test]
@@ -161,8 +186,12 @@ fn a_refusal_has_the_place_and_the_first_test_that_fails(rt: HostRuntime) -> Res
     is_refused(&rt, b"\x00\x01\x04\x07", 0, 1)?;
     is_refused(&rt, b"\x00\x00\x00\x00", 0, 1)?;
     is_refused(&rt, b"\x00\x00\x00\x01\x10", 0, 2)?;
-    is_refused(&rt, b"\x00\x00\x00\x01\x04", 0, 2)?;
+    is_refused(&rt, b"\x00\x00\x00\x01\x05", 0, 2)?;
     is_refused(&rt, b"\x00\x00\x00\x02\x03\x00", 0, 3)?;
+    is_refused(&rt, b"\x00\x00\x00\x03\x02\x00\x01", 0, 3)?;
+    is_refused(&rt, b"\x00\x00\x00\x03\x02\x00\x00", 0, 4)?;
+    is_refused(&rt, b"\x00\x00\x00\x05\x02\x00\x01a\x00", 0, 7)?;
+    is_refused(&rt, b"\x00\x00\x00\x02\x04\x00", 0, 7)?;
     is_refused(&rt, b"\x00\x00\x00\x08\x01\x00\x00\x00\x00\x00\x011", 0, 4)?;
     is_refused(&rt, b"\x00\x00\x00\x08\x01\x00\x01a\x00\x01\x00\x00", 0, 5)?;
     is_refused(
@@ -222,15 +251,6 @@ fn a_source_fills_what_a_message_lacks(rt: HostRuntime) -> Result<(), Fail> {
     Ok(())
 }
 
-/// Pieces, one after the other.
-fn concat(alloc: Global, pieces: &[&[u8]]) -> Result<Vec<u8>, Fail> {
-    let mut all = Vec::new(alloc);
-    for piece in pieces {
-        all.extend_from_slice(piece)?;
-    }
-    Ok(all)
-}
-
 #[test]
 fn the_largest_put_is_spelled_and_read(rt: HostRuntime) -> Result<(), Fail> {
     let alloc = rt.alloc();
@@ -262,10 +282,21 @@ fn each_reply_has_its_bytes(rt: HostRuntime) -> Result<(), Fail> {
     replies(&rt, Reply::Value { front: 1, value }, found)?;
     let absent = b"\x00\x00\x00\x09\x83\x00\x00\x00\x00\x00\x00\x00\x01";
     replies(&rt, Reply::Absent { front: 1 }, absent)?;
-    replies(&rt, Reply::Bye, b"\x00\x00\x00\x01\x89")?;
+    let synced = b"\x00\x00\x00\x09\x84\x00\x00\x00\x00\x00\x00\x00\x01";
+    replies(&rt, Reply::Synced { number: 1 }, synced)?;
+    replies(&rt, Reply::Bye, b"\x00\x00\x00\x01\x89")
+}
+
+#[test]
+fn each_refusal_has_its_bytes(rt: HostRuntime) -> Result<(), Fail> {
     let refused = b"\x00\x00\x00\x0A\xE1\x00\x00\x00\x00\x00\x00\x00\x1D\x06";
     replies(&rt, Reply::BadMessage { at: 29, code: 6 }, refused)?;
     let fault = b"\x00\x00\x00\x02\xE4\x03";
     replies(&rt, Reply::DeviceFault { device: 3 }, fault)?;
-    replies(&rt, Reply::OutOfMemory, b"\x00\x00\x00\x01\xE5")
+    replies(&rt, Reply::OutOfMemory, b"\x00\x00\x00\x01\xE5")?;
+    let number = 1 << 62;
+    let spent = b"\x00\x00\x00\x09\xE7\x40\x00\x00\x00\x00\x00\x00\x00";
+    replies(&rt, Reply::HistorySpent { number }, spent)?;
+    let spent = b"\x00\x00\x00\x09\xE8\x40\x00\x00\x00\x00\x00\x00\x00";
+    replies(&rt, Reply::NumbersSpent { next: number }, spent)
 }

@@ -5,7 +5,8 @@ ghost use Rattle.wire_protocol.specs.Grammar.{key_field, value_field, request_bo
 ghost use Rattle.wire_protocol.specs.declared.limits.TheConstants.{LENGTH_SIZE};
 
 use crate::codes::{
-    ABSENT, BAD_MESSAGE, BYE, DEVICE_FAULT, DONE, GET, OUT_OF_MEMORY, PUT, QUIT, VALUE,
+    ABSENT, BAD_MESSAGE, BYE, DELETE, DEVICE_FAULT, DONE, GET, HISTORY_SPENT, NUMBERS_SPENT,
+    OUT_OF_MEMORY, PUT, QUIT, SYNC, SYNCED, VALUE,
 };
 use crate::limits::{BODY_MAX, LENGTH_SIZE, MESSAGE_MAX, REPLY_MAX};
 use history_core::{Reply, Request};
@@ -62,8 +63,8 @@ fn request_body_len(request: &Request) -> usize
 {
     match request {
         Request::Put { row } => 7 + row.key.as_bytes().len() + row.value.as_bytes().len(),
-        Request::Get { key } => 3 + key.as_bytes().len(),
-        Request::Quit => 1,
+        Request::Delete { key } | Request::Get { key } => 3 + key.as_bytes().len(),
+        Request::Sync | Request::Quit => 1,
     }
 }
 
@@ -78,10 +79,15 @@ fn add_request_body(out: &mut Vec<u8>, request: &Request) -> Result<(), NoMemory
             add_key(out, &row.key)?;
             add_value(out, &row.value)?;
         }
+        Request::Delete { key } => {
+            out.push(DELETE)?;
+            add_key(out, key)?;
+        }
         Request::Get { key } => {
             out.push(GET)?;
             add_key(out, key)?;
         }
+        Request::Sync => out.push(SYNC)?,
         Request::Quit => out.push(QUIT)?,
     }
     Ok(())
@@ -111,7 +117,8 @@ fn reply_body_len(reply: &Reply) -> usize
 {
     match reply {
         Reply::Value { front: _, value } => 13 + value.as_bytes().len(),
-        Reply::Done { number: _ } | Reply::Absent { front: _ } => 9,
+        Reply::Done { number: _ } | Reply::Absent { front: _ } | Reply::Synced { number: _ } => 9,
+        Reply::HistorySpent { number: _ } | Reply::NumbersSpent { next: _ } => 9,
         Reply::BadMessage { at: _, code: _ } => 10,
         Reply::DeviceFault { device: _ } => 2,
         Reply::Bye | Reply::OutOfMemory => 1,
@@ -130,6 +137,7 @@ fn add_reply_body(out: &mut Vec<u8>, reply: &Reply) -> Result<(), NoMemory>
             add_value(out, value)?;
         }
         Reply::Absent { front } => add_numbered(out, ABSENT, *front)?,
+        Reply::Synced { number } => add_numbered(out, SYNCED, *number)?,
         Reply::Bye => out.push(BYE)?,
         Reply::BadMessage { at, code } => {
             add_numbered(out, BAD_MESSAGE, *at)?;
@@ -140,6 +148,8 @@ fn add_reply_body(out: &mut Vec<u8>, reply: &Reply) -> Result<(), NoMemory>
             out.push(*device)?;
         }
         Reply::OutOfMemory => out.push(OUT_OF_MEMORY)?,
+        Reply::HistorySpent { number } => add_numbered(out, HISTORY_SPENT, *number)?,
+        Reply::NumbersSpent { next } => add_numbered(out, NUMBERS_SPENT, *next)?,
     }
     Ok(())
 }

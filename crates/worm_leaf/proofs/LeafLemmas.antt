@@ -1,4 +1,4 @@
--- The pairs of a leaf after a put and after a split. To know: `leaf-put`, `leaf-left`, `leaf-right`, `split-inside`, `PartsAt-one`.
+-- The pairs of a leaf after a put and after a split. To know: `leaf-put`, `covered-with_pair`, `leaf-left`, `leaf-right`, `split-inside`, `PartsAt-one`.
 use Rattle.std.proofs.Common.{◌≡◌, ℕ, zero, suc, ◌+◌, ◌-◌, ◌<◌, ◌≤◌, Bool, true, false, get_or, ◌⊎◌, inl, inr, List, [], ◌∷◌, length, take, drop, refl, sym, ap, ◌∙◌, subst, arith}
 use Rattle.std.specs.Prelude.{Option, Some, None, slice_get, if◌then◌else◌}
 use Rattle.std.specs.List.{AllByRecursion}
@@ -22,7 +22,7 @@ use Rattle.worm_leaf.specs.Leaves.{LeafState, IsLeaf, AreCovered, covers}
 use Rattle.worm_leaf.specs.declared.limits.TheConstants.{LEAF_PAIRS_MAX, LEAF_PAIRS_KEPT}
 
 -- with a pair in its place
-covered-with_pair : (leaf : LeafState) (pairs : List Pair) (p : Pair) → AreCovered leaf pairs → covers leaf p.key ≡ true → AreCovered leaf (with_pair pairs p)
+pub covered-with_pair : (leaf : LeafState) (pairs : List Pair) (p : Pair) → AreCovered leaf pairs → covers leaf p.key ≡ true → AreCovered leaf (with_pair pairs p)
 covered-with_pair leaf pairs p all is =
     let P : Pair → Type 0 = λ (q : Pair). covers leaf q.key ≡ true in
     all-append P (pairs_below p.key pairs) (p ∷ pairs_above p.key pairs)

@@ -28,14 +28,31 @@ fn each_status_but_0_has_its_line(rt: HostRuntime) -> Result<(), Fail> {
             "remixdb: words are not in the stated form\n",
         ),
         (
-            Outcome::TornHeader { at: 0 },
+            Outcome::TornHeader { strip: 0, at: 0 },
             3,
             "remixdb: devices refused: TornHeader strip 0 at 0\n",
         ),
         (
-            Outcome::TornHeader { at: 33_554_439 },
+            Outcome::TornHeader {
+                strip: 0,
+                at: 33_554_439,
+            },
             3,
             "remixdb: devices refused: TornHeader strip 0 at 33554439\n",
+        ),
+        (
+            Outcome::BadEntry {
+                strip: 0,
+                frame: 22,
+                at: 9,
+            },
+            3,
+            "remixdb: devices refused: BadEntry strip 0 frame 22 at 9\n",
+        ),
+        (
+            Outcome::LogGap { want: 0, found: 5 },
+            3,
+            "remixdb: devices refused: LogGap want 0 found 5\n",
         ),
         (
             Outcome::DeviceFailed { device: 0 },

@@ -8,7 +8,7 @@ use crate::tests::piece_host::PieceHost;
 use crate::tests::samples::BAD;
 use crate::top::remixdb;
 use disk_model::MemoryStrip;
-use host_model::{Host, MemoryHost, Word};
+use host_model::{Host, MemoryHost, Word, memory_devices};
 use link_model::{ByteSink, ByteSource};
 use std::process::Abort;
 use std::test::Fail;
@@ -48,7 +48,8 @@ pub struct Wanted<'a> {
     pub notes: &'a [u8],
 }
 
-fn words_of(rt: &(impl Abort + AllocGlobal), words: &[&str]) -> Result<Vec<Word>, Fail> {
+/// These words.
+pub fn words_of(rt: &(impl Abort + AllocGlobal), words: &[&str]) -> Result<Vec<Word>, Fail> {
     let mut all = Vec::new(rt.alloc());
     for word in words {
         all.push(Word::try_new(rt.alloc(), word)?)?;
@@ -71,7 +72,8 @@ fn host_of(rt: &(impl Abort + AllocGlobal), given: Given) -> Result<MemoryHost, 
         Vec::from_slice(alloc, given.strip)?,
         Vec::from_slice(alloc, given.device_fails)?,
     )?;
-    Ok(MemoryHost::new(alloc, strip, source, sink))
+    let devices = memory_devices(alloc, strip)?;
+    Ok(MemoryHost::new(alloc, devices, source, sink))
 }
 
 fn came_to(
@@ -83,7 +85,9 @@ fn came_to(
     assert_eq!(rt; status, wanted.status);
     assert_eq!(rt; host.output().ok_or("the streams are out")?, wanted.output);
     assert_eq!(rt; host.remaining().ok_or("the streams are out")?, wanted.left);
-    assert_eq!(rt; host.strip_bytes().ok_or("the strip is out")?, wanted.strip);
+    let devices = host.at_home().ok_or("the devices are out")?;
+    let strip = devices.log.first().ok_or("no strip of the log")?;
+    assert_eq!(rt; strip.as_bytes(), wanted.strip);
     assert_eq!(rt; host.notes(), wanted.notes);
     Ok(())
 }
@@ -156,35 +160,29 @@ pub fn concat(rt: &(impl Abort + AllocGlobal), pieces: &[&[u8]]) -> Result<Vec<u
     Ok(all)
 }
 
-/// A strip as a journal leaves it: a frame with the updates that were accepted, or none.
-pub fn journal_of(rt: &(impl Abort + AllocGlobal), updates: &[&[u8]]) -> Result<Vec<u8>, Fail> {
-    let payload = concat(rt, updates)?;
-    if payload.is_empty() {
-        return concat(rt, &[&[0]]);
+/// The header of segment 0, whose first entry has the number 0, as a frame of a strip.
+pub const HEADER: &[u8] = &[
+    0xA5, 0, 0, 0, 0x11, 0, 0, 0, 0, 0, 0, 0, 0, 0, 0, 0, 0, 0, 0, 0, 0, 0,
+];
+
+/// A frame of the entries that these PUTs make, of which the first has this number and this ordinal.
+pub fn frame_of(
+    rt: &(impl Abort + AllocGlobal),
+    number: u64,
+    ordinal: u64,
+    puts: &[&[u8]],
+) -> Result<Vec<u8>, Fail> {
+    let count = u32::try_from(puts.len())?;
+    let mut payload = concat(rt, &[&[1], &number.to_be_bytes(), &count.to_be_bytes()])?;
+    let mut next = ordinal;
+    for put in puts {
+        // The caller 0, the ordinal, and what a PUT has after its length and its code.
+        let pair = put.get(5..).ok_or("a PUT")?;
+        payload.extend_from_slice(&[0; 4])?;
+        payload.extend_from_slice(&next.to_be_bytes())?;
+        payload.extend_from_slice(pair)?;
+        next = next.wrapping_add(1);
     }
     let len = u32::try_from(payload.len())?;
-    concat(rt, &[&[0xA5], &len.to_be_bytes(), &payload, &[0]])
-}
-
-/// A session over streams and a strip that do not fail ends with this status, does not take what is left of its input,
-/// puts this output, and logs these updates.
-pub fn ends_with(
-    rt: &(impl Abort + AllocGlobal),
-    status: u8,
-    input: &[&[u8]],
-    left: &[u8],
-    output: &[&[u8]],
-    updates: &[&[u8]],
-) -> Result<(), Fail> {
-    let input = concat(rt, input)?;
-    let output = concat(rt, output)?;
-    let strip = journal_of(rt, updates)?;
-    let wanted = Wanted {
-        status,
-        output: &output,
-        left,
-        strip: &strip,
-        notes: if status == 0 { b"" } else { BAD },
-    };
-    script(rt, Given::input(&input), wanted)
+    concat(rt, &[&[0xA5], &len.to_be_bytes(), &payload])
 }

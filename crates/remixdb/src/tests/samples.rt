@@ -5,6 +5,11 @@ pub const PUT: &[u8] = &[0, 0, 0, 9, 1, 0, 1, 0x61, 0, 0, 0, 1, 0x31];
 
 pub const GET: &[u8] = &[0, 0, 0, 4, 3, 0, 1, 0x61];
 
+/// DELETE `x`.
+pub const DELETE: &[u8] = &[0, 0, 0, 4, 2, 0, 1, 0x78];
+
+pub const SYNC: &[u8] = &[0, 0, 0, 1, 4];
+
 pub const QUIT: &[u8] = &[0, 0, 0, 1, 9];
 
 pub const DONE_0: &[u8] = &[0, 0, 0, 9, 0x81, 0, 0, 0, 0, 0, 0, 0, 0];
@@ -15,6 +20,13 @@ pub const VALUE_1: &[u8] = &[
 ];
 
 pub const ABSENT_0: &[u8] = &[0, 0, 0, 9, 0x83, 0, 0, 0, 0, 0, 0, 0, 0];
+
+pub const ABSENT_1: &[u8] = &[0, 0, 0, 9, 0x83, 0, 0, 0, 0, 0, 0, 0, 1];
+
+pub const SYNCED_1: &[u8] = &[0, 0, 0, 9, 0x84, 0, 0, 0, 0, 0, 0, 0, 1];
+
+/// Device 0 failed.
+pub const FAULT_0: &[u8] = &[0, 0, 0, 2, 0xE4, 0];
 
 pub const BYE: &[u8] = &[0, 0, 0, 1, 0x89];
 

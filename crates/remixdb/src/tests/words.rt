@@ -1,7 +1,7 @@
 //! The words of a command line.
 use crate::arguments::ArgumentsError;
 use crate::tests::running::{Given, Wanted, run, run_program};
-use crate::tests::samples::{BYE, OUT_OF_MEMORY, PUT, QUIT, UNKNOWN};
+use crate::tests::samples::{OUT_OF_MEMORY, PUT, QUIT, UNKNOWN};
 use std::test::Fail;
 
 #[test]
@@ -11,14 +11,14 @@ fn other_words_are_refused(rt: HostRuntime) -> Result<(), Fail> {
         &["script"],
         &["mem"],
         &["script", "mem", "mem"],
-        &["script", "folder"],
+        &["script", "-"],
+        &["script", "-x"],
         &["script", "--", "mem"],
         &["mem", "script"],
         &["chek", "x"],
         &["Script", "mem"],
         &["script", ""],
         &["--help"],
-        &["script", "me\u{301}m"],
     ];
     for words in cases {
         let wanted = Wanted {
@@ -51,22 +51,4 @@ fn arguments_that_cannot_be_read_have_a_line(rt: HostRuntime) -> Result<(), Fail
     run_program(&rt, no_text, given, ends_at_once(2, UNKNOWN))?;
     let memory = Err(ArgumentsError::Memory);
     run_program(&rt, memory, given, ends_at_once(6, OUT_OF_MEMORY))
-}
-
-#[test]
-fn the_name_of_the_program_is_no_word(rt: HostRuntime) -> Result<(), Fail> {
-    let given = Given::input(QUIT);
-    let without_name: &[&[&str]] = &[&["script", "mem"], &[]];
-    for arguments in without_name {
-        run_program(&rt, Ok(*arguments), given, ends_at_once(2, UNKNOWN))?;
-    }
-    let wanted = Wanted {
-        status: 0,
-        output: BYE,
-        left: &[],
-        strip: &[0],
-        notes: b"",
-    };
-    let arguments: &[&str] = &["remixdb", "script", "mem"];
-    run_program(&rt, Ok(arguments), given, wanted)
 }

@@ -8,4 +8,4 @@ pub returns-clause-replies : goal.returns-clause-replies
 returns-clause-replies c = replies_from_operations
 
 pub returns-clause-growing : goal.returns-clause-growing
-returns-clause-growing c = OperatesAll-grown
+returns-clause-growing c = λ history more state next operations most h. OperatesAll-grown history more state next operations (λ le. most) h

@@ -8,4 +8,4 @@ pub returns-clause-forward : goal.returns-clause-forward
 returns-clause-forward c = least-forward
 
 pub returns-clause-growing : goal.returns-clause-growing
-returns-clause-growing c = λ history more state next requests replies r. ReplaysAll-grown history more state requests replies next r
+returns-clause-growing c = λ history more state next requests replies most r. ReplaysAll-grown history more state requests replies next (λ le. most) r

@@ -17,13 +17,12 @@ messages-init g c =
     record {
       empty = ap (λ (d : Held). d.bytes) c.in-Ok.ensures;
       below = omega (arith, at);
-      number = omega (arith, at, c.requires);
       replies = omega (arith, at);
       few = λ d. omega (arith, none d);
       books = λ d. subst (λ (o : Option Units). IfSome (book_of o) (λ book. book ≡ g.A.Answers.books d)) (sym (c.new-faults.ensures d)) tt;
       source = refl;
       sink = refl;
-      so_far = so_far_first first ready c.in-Ok.rooms.decoder.at (nothing_exchanged first ready refl refl refl (λ d. refl) (λ d. none d)) at;
+      so_far = so_far_first first ready c.in-Ok.rooms.decoder.at (nothing_exchanged first ready refl refl refl (λ d. none d)) at;
     }
 
 pub messages-preserved : goal.messages-preserved
@@ -37,9 +36,8 @@ messages-preserved g c =
     record {
       empty = counts.1;
       below = c.in-None.ensures.spent;
-      number = omega (arith, counts.0, counts.2, c.messages.invariant.number);
       replies = omega (arith, counts.0, c.messages.invariant.replies);
-      few = λ d. omega (arith, counts.0, counts.3 d, c.messages.invariant.few d);
+      few = λ d. omega (arith, counts.0, counts.2 d, c.messages.invariant.few d);
       books = c.in-None.ensures.books;
       source = c.in-None.ensures.source_kept (λ e. cc) ∙ c.messages.invariant.source;
       sink = c.in-None.ensures.sink_kept (λ e. cc) ∙ c.messages.invariant.sink;

@@ -8,7 +8,6 @@ abbrev pub invariant-messages : goal.invariant-messages
 invariant-messages g l = record {
   empty : l.rooms.decoder.bytes ≡ [];
   below : l.rooms.decoder.at ≤ SESSION_MAX;
-  number : (g.A.Answers.map l.pass).number ≤ l.rooms.decoder.at;
   replies : l.replies ≤ l.rooms.decoder.at;
   few : AreAtMost l.rooms.decoder.at l.faults;
   books : AreOf g.A.Answers.books l.faults;

@@ -1,0 +1,4 @@
+pub mod RowLemmas
+pub mod ReopenLemmas
+pub mod MoveLemmas
+pub mod OpenLemmas

@@ -1,0 +1,9 @@
+pub mod Rows
+pub mod StoreState
+pub mod Reopening
+pub mod Stores
+pub mod Kept
+pub mod Openings
+pub mod Beside
+pub mod Closing
+pub mod Appending
