@@ -1,29 +1,41 @@
 //! The plain program that RemixDB is measured beside: the same messages over std's ordered map.
 //!
-//! It answers each input as `remixdb script mem` does, and proves nothing. It has a buffer on each
+//! It answers each input as `remixdb script` does, and proves nothing. It has a buffer on each
 //! stream, writes a value to the buffer straight from the map, and flushes where the next message
-//! is not yet in the buffer. With the word `log` it also keeps each put's message in memory, as
-//! RemixDB's log does.
+//! is not yet in the buffer. With words it keeps a log of the updates:
+//!
+//! - `log` keeps the messages in memory, as RemixDB's log does over `mem`.
+//! - `file PATH` gathers the messages. At each SYNC, where 262,144 bytes are gathered, and at the end
+//!   it appends them to the file as one block, by one write and one `fdatasync`.
+//! - `file2 PATH` does that by two writes and two syncs: a block has a gate, which is opened once the
+//!   block is synced. So a crash leaves a block whole or not at all, as it does with RemixDB's frames.
+//!
+//! It reads a file that is there first, and does the file's updates again.
 
 use std::collections::BTreeMap;
 use std::env;
 use std::fs::File;
 use std::io::{self, BufRead, BufReader, BufWriter, Read, Write};
 use std::os::fd::AsFd;
+use std::os::unix::fs::FileExt;
 use std::process::ExitCode;
 
 const BUFFER: usize = 64 * 1024;
+const GATHERED_MAX: usize = 262_144;
 const BODY_MAX: usize = 66_566;
 const KEY_MAX: usize = 1_024;
 const VALUE_MAX: usize = 65_535;
 
 const PUT: u8 = 0x01;
+const DELETE: u8 = 0x02;
 const GET: u8 = 0x03;
+const SYNC: u8 = 0x04;
 const QUIT: u8 = 0x09;
 
 const DONE: u8 = 0x81;
 const VALUE: u8 = 0x82;
 const ABSENT: u8 = 0x83;
+const SYNCED: u8 = 0x84;
 const BYE: u8 = 0x89;
 const BAD_MESSAGE: u8 = 0xE1;
 
@@ -80,30 +92,154 @@ impl<'a> Fields<'a> {
     }
 }
 
-/// The map with the number of its updates, and their messages where they are kept.
-#[derive(Default)]
+/// A log in a file, as blocks: a gate, u32 length, and so many bytes of messages.
+struct FileLog {
+    file: File,
+    /// The place of the next block.
+    end: u64,
+    /// The next block, with its gate and its length in front.
+    block: Vec<u8>,
+    opens_gates: bool,
+}
+
+const CLOSED: u8 = 0;
+const OPEN: u8 = 1;
+const BLOCK_HEAD: usize = 5;
+
+impl FileLog {
+    /// Opens a log, or makes it where it is absent.
+    fn open(path: &str, opens_gates: bool) -> io::Result<FileLog> {
+        let mut options = File::options();
+        options.read(true).write(true).create(true);
+        Ok(FileLog {
+            file: options.open(path)?,
+            end: 0,
+            block: vec![0; BLOCK_HEAD],
+            opens_gates,
+        })
+    }
+
+    /// Hands each message of the log's blocks to an act.
+    fn read(&mut self, mut act: impl FnMut(&[u8]) -> Result<(), End>) -> Result<(), End> {
+        let mut input = BufReader::with_capacity(BUFFER, &self.file);
+        let mut body = vec![0; BODY_MAX];
+        let mut head = [OPEN; BLOCK_HEAD];
+        while input.fill_buf()?.first() == Some(&OPEN) {
+            read_whole(&mut input, &mut head)?;
+            let length = u32::from_be_bytes([head[1], head[2], head[3], head[4]]) as u64;
+            let mut block = input.by_ref().take(length);
+            while let Some(length) = read_length(&mut block)? {
+                read_whole(&mut block, &mut body[..length])?;
+                act(&body[..length])?;
+            }
+            self.end += BLOCK_HEAD as u64 + length;
+        }
+        Ok(())
+    }
+
+    fn flush(&mut self) -> io::Result<()> {
+        let length = self.block.len() - BLOCK_HEAD;
+        if length == 0 {
+            return Ok(());
+        }
+        self.block[0] = if self.opens_gates { CLOSED } else { OPEN };
+        self.block[1..BLOCK_HEAD].copy_from_slice(&(length as u32).to_be_bytes());
+        self.file.write_all_at(&self.block, self.end)?;
+        self.file.sync_data()?;
+        if self.opens_gates {
+            self.file.write_all_at(&[OPEN], self.end)?;
+            self.file.sync_data()?;
+        }
+        self.end += self.block.len() as u64;
+        self.block.truncate(BLOCK_HEAD);
+        Ok(())
+    }
+}
+
+enum Log {
+    None,
+    Memory(Vec<u8>),
+    File(FileLog),
+}
+
+impl Log {
+    /// Keeps the message of an update.
+    fn add(&mut self, body: &[u8]) -> io::Result<()> {
+        let kept = match self {
+            Log::None => return Ok(()),
+            Log::Memory(kept) => kept,
+            Log::File(log) => {
+                if log.block.len() >= GATHERED_MAX {
+                    log.flush()?;
+                }
+                &mut log.block
+            }
+        };
+        kept.extend_from_slice(&(body.len() as u32).to_be_bytes());
+        kept.extend_from_slice(body);
+        Ok(())
+    }
+
+    fn sync(&mut self) -> io::Result<()> {
+        match self {
+            Log::File(log) => log.flush(),
+            _ => Ok(()),
+        }
+    }
+}
+
+/// The map with the number of its updates, and their log.
 struct Store {
     rows: BTreeMap<Vec<u8>, Vec<u8>>,
     updates: u64,
-    log: Option<Vec<u8>>,
+    log: Log,
 }
 
 impl Store {
+    /// The store that the program's words ask for.
+    fn open() -> Result<Store, End> {
+        let mut store = Store {
+            rows: BTreeMap::new(),
+            updates: 0,
+            log: Log::None,
+        };
+        let words: Vec<String> = env::args().skip(1).collect();
+        match words.iter().map(String::as_str).collect::<Vec<_>>()[..] {
+            ["log"] => store.log = Log::Memory(Vec::new()),
+            [word @ ("file" | "file2"), path] => {
+                let mut log = FileLog::open(path, word == "file2")?;
+                log.read(|body| store.update(body))?;
+                store.log = Log::File(log);
+            }
+            _ => {}
+        }
+        Ok(store)
+    }
+
+    /// Does what the body of a PUT or a DELETE asks.
+    fn update(&mut self, body: &[u8]) -> Result<(), End> {
+        let mut fields = Fields(&body[1..]);
+        let key = fields.key()?;
+        if body[0] == PUT {
+            let value = fields.value()?;
+            fields.finish()?;
+            self.rows.insert(key.to_vec(), value.to_vec());
+        } else {
+            fields.finish()?;
+            self.rows.remove(key);
+        }
+        self.updates += 1;
+        Ok(())
+    }
+
     /// Does what a body asks and writes the reply. Tells whether it was a quit.
     fn answer<W: Write>(&mut self, body: &[u8], output: &mut W) -> Result<bool, End> {
         let mut fields = Fields(&body[1..]);
         match body[0] {
-            PUT => {
-                let key = fields.key()?;
-                let value = fields.value()?;
-                fields.finish()?;
-                if let Some(log) = &mut self.log {
-                    log.extend_from_slice(&(body.len() as u32).to_be_bytes());
-                    log.extend_from_slice(body);
-                }
-                self.rows.insert(key.to_vec(), value.to_vec());
-                write_head(output, DONE, 0, self.updates)?;
-                self.updates += 1;
+            PUT | DELETE => {
+                self.update(body)?;
+                self.log.add(body)?;
+                write_head(output, DONE, 0, self.updates - 1)?;
             }
             GET => {
                 let key = fields.key()?;
@@ -116,6 +252,11 @@ impl Store {
                     }
                     None => write_head(output, ABSENT, 0, self.updates)?,
                 }
+            }
+            SYNC => {
+                fields.finish()?;
+                self.log.sync()?;
+                write_head(output, SYNCED, 0, self.updates)?;
             }
             QUIT => {
                 fields.finish()?;
@@ -167,15 +308,11 @@ fn read_whole<R: Read>(input: &mut R, into: &mut [u8]) -> Result<(), End> {
 
 /// Serves messages up to the first that ends the session. Keeps the place where that one begins.
 fn serve<R: Read, W: Write>(
+    store: &mut Store,
     input: &mut BufReader<R>,
     output: &mut W,
     place: &mut u64,
 ) -> Result<(), End> {
-    let keeps_log = env::args().nth(1).is_some_and(|word| word == "log");
-    let mut store = Store {
-        log: keeps_log.then(Vec::new),
-        ..Store::default()
-    };
     let mut body = vec![0; BODY_MAX];
     loop {
         if !holds_message(input.buffer()) {
@@ -192,10 +329,10 @@ fn serve<R: Read, W: Write>(
     }
 }
 
-/// Serves a session, and writes the reply to a message that is none.
-fn session<R: Read, W: Write>(input: &mut BufReader<R>, output: &mut W) -> End {
+/// Serves a session, writes the reply to a message that is none, and keeps the log.
+fn session<R: Read, W: Write>(store: &mut Store, input: &mut BufReader<R>, output: &mut W) -> End {
     let mut place = 0;
-    let end = match serve(input, output, &mut place) {
+    let end = match serve(store, input, output, &mut place) {
         Ok(()) => End::Well,
         Err(end) => end,
     };
@@ -205,7 +342,7 @@ fn session<R: Read, W: Write>(input: &mut BufReader<R>, output: &mut W) -> End {
             return End::Failed;
         }
     }
-    if output.flush().is_err() {
+    if output.flush().and_then(|()| store.log.sync()).is_err() {
         return End::Failed;
     }
     end
@@ -221,7 +358,10 @@ fn serve_standard_streams() -> End {
     };
     let mut input = BufReader::with_capacity(BUFFER, File::from(input));
     let mut output = BufWriter::with_capacity(BUFFER, File::from(output));
-    session(&mut input, &mut output)
+    match Store::open() {
+        Ok(mut store) => session(&mut store, &mut input, &mut output),
+        Err(_) => End::Failed,
+    }
 }
 
 fn main() -> ExitCode {

@@ -5,11 +5,20 @@ from __future__ import annotations
 from importlib import import_module
 from typing import Dict
 
-from .load import Aim, Load
+from .load import LOGGING, ONE_SYNC, PLAIN, TWO_SYNCS, Aim, Load
 
-__all__ = ["Aim", "Load", "NAMES", "all_loads"]
+__all__ = ["Aim", "LOGGING", "Load", "NAMES", "ONE_SYNC", "PLAIN", "TWO_SYNCS", "all_loads"]
 
-NAMES = ("mixed", "rising", "wide", "one_at_a_time")
+NAMES = (
+    "mixed",
+    "rising",
+    "wide",
+    "deletes",
+    "one_at_a_time",
+    "synced_each",
+    "synced_often",
+    "opening",
+)
 
 
 def all_loads() -> Dict[str, Load]:

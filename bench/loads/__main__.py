@@ -1,4 +1,5 @@
-"""Writes a load: the requests as one file, and the replies that they must get as another.
+"""Writes a load: the requests as one file, and the replies that they must get as another. With the word fill it
+writes those that come before the load.
 
 The bench runs this in a process of its own, since a program that it starts counts the memory of
 the process that started it as its own peak.
@@ -10,9 +11,12 @@ from . import all_loads
 from .writer import Writer
 
 
-def main(name: str, count: str, requests: str, replies: str) -> None:
+def main(name: str, count: str, requests: str, replies: str, part: str) -> None:
+    load = all_loads()[name]
+    write = load.fill if part == "fill" else load.write
+    assert write is not None
     with open(requests, "wb") as asked, open(replies, "wb") as wanted:
-        all_loads()[name].write(Writer(asked, wanted), int(count))
+        write(Writer(asked, wanted), int(count))
 
 
 if __name__ == "__main__":

@@ -2,23 +2,36 @@
 
 from __future__ import annotations
 
-from typing import Callable, NamedTuple, Optional
+from typing import Callable, NamedTuple, Optional, Tuple
 
 from .writer import Writer
 
+PLAIN = "plain"
+LOGGING = "plain with a log"
+ONE_SYNC = "plain with one sync"
+TWO_SYNCS = "plain with two syncs"
+
 
 class Aim(NamedTuple):
-    """What RemixDB may use at most, in ratios to the plain program."""
+    """What RemixDB may use at most, in ratios to another program."""
 
-    time: float
+    time: Optional[float]
     memory: Optional[float]
+    beside: str = PLAIN
 
 
 class Load(NamedTuple):
-    """What both programs are asked. One request at a time means that each reply is waited for."""
+    """What the programs are asked. One request at a time means that each reply is waited for."""
 
     title: str
     count: int
     write: Callable[[Writer, int], None]
-    aim: Aim
+    aims: Tuple[Aim, ...]
+    """The first is to the program whose ratios are told first."""
+
     is_one_at_a_time: bool = False
+    is_on_files: bool = False
+    """Whether the programs keep their updates in files. Each run begins with an empty folder."""
+
+    fill: Optional[Callable[[Writer, int], None]] = None
+    """Requests that each program is asked once, before its runs, so that each opens what they left."""

@@ -4,5 +4,5 @@ from . import mixed
 from .load import Aim, Load
 
 LOAD = Load(
-    "requests, one at a time", 20_000, mixed.write, Aim(time=1.2, memory=None), is_one_at_a_time=True
+    "requests, one at a time", 20_000, mixed.write, (Aim(time=1.2, memory=None),), is_one_at_a_time=True
 )

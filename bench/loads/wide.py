@@ -14,4 +14,4 @@ def write(writer: Writer, count: int) -> None:
         writer.put(some_bytes(source, KEY_BYTES), some_bytes(source, WIDEST_VALUE_BYTES))
 
 
-LOAD = Load("puts of 65,535 bytes", 1_000, write, Aim(time=1.5, memory=3))
+LOAD = Load("puts of 65,535 bytes", 1_000, write, (Aim(time=1.5, memory=3),))

@@ -23,19 +23,43 @@ class Writer:
         self._rows: Dict[bytes, bytes] = {}
         self._updates = 0
 
+    def go_on(self, updates: int, rows: Dict[bytes, bytes]) -> None:
+        """Begins after so many updates, which left these rows, and maybe others."""
+        self._updates = updates
+        self._rows = rows
+
     def put(self, key: bytes, value: bytes) -> None:
         self._rows[key] = value
-        row = len(key).to_bytes(2, "big") + key + len(value).to_bytes(4, "big") + value
-        self._requests.write(frame(b"\x01" + row))
-        self._replies.write(frame(b"\x81" + self._updates.to_bytes(8, "big")))
-        self._updates += 1
+        self._requests.write(frame(b"\x01" + field(key) + len(value).to_bytes(4, "big") + value))
+        self._done()
+
+    def delete(self, key: bytes) -> None:
+        self._rows.pop(key, None)
+        self._requests.write(frame(b"\x02" + field(key)))
+        self._done()
 
     def get(self, key: bytes) -> None:
         """Asks for a key that is there."""
         value = self._rows[key]
         front = self._updates.to_bytes(8, "big")
-        self._requests.write(frame(b"\x03" + len(key).to_bytes(2, "big") + key))
+        self._requests.write(frame(b"\x03" + field(key)))
         self._replies.write(frame(b"\x82" + front + len(value).to_bytes(4, "big") + value))
+
+    def sync(self) -> None:
+        self._requests.write(frame(b"\x04"))
+        self._replies.write(frame(b"\x84" + self._updates.to_bytes(8, "big")))
+
+    def quit(self) -> None:
+        self._requests.write(frame(b"\x09"))
+        self._replies.write(frame(b"\x89"))
+
+    def _done(self) -> None:
+        self._replies.write(frame(b"\x81" + self._updates.to_bytes(8, "big")))
+        self._updates += 1
+
+
+def field(key: bytes) -> bytes:
+    return len(key).to_bytes(2, "big") + key
 
 
 def frame(body: bytes) -> bytes:

@@ -22,8 +22,7 @@ def main(path: str) -> None:
         place = loads.index(bar["load"]) + (-0.2 if bar["what"] == "time" else 0.2)
         axes.barh(place, median, height=0.36, color=COLORS[bar["what"]])
         axes.plot([least, greatest], [place, place], color="black", linewidth=1.5)
-        if bar["aim"]:
-            axes.plot([bar["aim"]] * 2, [place - 0.18, place + 0.18], color="#b03030", linewidth=2)
+        axes.plot([bar["aim"]] * 2, [place - 0.18, place + 0.18], color="#b03030", linewidth=2)
     axes.axvline(1, color="#888888", linewidth=1, linestyle=":")
     axes.set_yticks(range(len(loads)))
     axes.set_yticklabels(loads)

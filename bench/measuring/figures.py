@@ -5,9 +5,9 @@ from __future__ import annotations
 import statistics
 from typing import Callable, List, NamedTuple, Optional
 
-from loads import Load
+from loads import PLAIN, Aim, Load
 
-from .programs import PLAIN, REMIXDB
+from .programs import REMIXDB
 from .runs import Cost, Costs
 
 Figure = Callable[[Cost], Optional[float]]
@@ -31,7 +31,7 @@ class Measured(NamedTuple):
     costs: Costs
     instructions: Optional[float]
 
-    def ratio(self, figure: Figure, other: str = PLAIN) -> Optional[Spread]:
+    def ratio(self, figure: Figure, other: str) -> Optional[Spread]:
         """RemixDB's figure over another program's, of the same round, where each run has it."""
         pairs = list(zip(map(figure, self.costs[REMIXDB]), map(figure, self.costs[other])))
         known = [ours / theirs for ours, theirs in pairs if ours and theirs]
@@ -45,15 +45,21 @@ class Measured(NamedTuple):
         known = [value for value in map(figure, costs) if value is not None]
         return statistics.median(known) if len(known) == len(costs) else None
 
-    def missed(self) -> List[str]:
-        """What the aim is missed in. What is not known or not aimed at is not missed."""
-        aim = self.load.aim
+    def missed(self, aim: Aim) -> List[str]:
+        """What an aim is missed in. What is not known or not aimed at is not missed."""
         tests = [("time", seconds, aim.time), ("memory", memory, aim.memory)]
-        found = [(name, self.ratio(figure), most) for name, figure, most in tests]
+        found = [(name, self.ratio(figure, aim.beside), most) for name, figure, most in tests]
         return [name for name, ratio, most in found if ratio and most and ratio.median > most]
+
+    def misses(self) -> bool:
+        return any(self.missed(aim) for aim in self.load.aims)
 
     def title(self) -> str:
         return f"{self.load.count:,} {self.load.title}"
+
+    def title_of(self, aim: Aim) -> str:
+        """The title of the ratios to which an aim is set."""
+        return self.title() if aim.beside == PLAIN else f"{self.title()}, beside {aim.beside}"
 
 
 def seconds(cost: Cost) -> float:
@@ -72,15 +78,16 @@ def told(ratio: object) -> str:
     return "-" if ratio is None else str(ratio)
 
 
-def told_aim(measured: Measured) -> str:
-    """The aim, and whether it is met."""
-    aim = measured.load.aim
-    text = f"time {aim.time}" + (f", memory {aim.memory}" if aim.memory else "")
-    misses = measured.missed()
+def told_aim(measured: Measured, aim: Aim) -> str:
+    """An aim, and whether it is met."""
+    parts = [("time", aim.time), ("memory", aim.memory)]
+    text = ", ".join(f"{name} {most}" for name, most in parts if most)
+    misses = measured.missed(aim)
     if misses:
         return f"{text}: {' and '.join(misses)} missed"
-    is_known = aim.memory is None or measured.ratio(memory) is not None
-    return f"{text}: met" if is_known else f"{text}: met in time, memory not known"
+    if aim.memory is None or measured.ratio(memory, aim.beside) is not None:
+        return f"{text}: met"
+    return f"{text}: {'met in time, ' if aim.time else ''}memory not known"
 
 
 def amount(value: Optional[float], unit: str, factor: float = 1) -> str:

@@ -11,7 +11,7 @@ from typing import Callable, List, NamedTuple, Optional
 from loads import Load
 
 from .programs import Failure, Files, Program, write_load
-from .runs import Runner, run_on_files, runner_of
+from .runs import fill, run_once
 
 TRACED_SHARE = 50
 """Instructions are counted on one request of so many, since valgrind is slow."""
@@ -47,7 +47,7 @@ COUNTERS = [
 
 
 def counted(
-    counter: Counter, run: Runner, program: Program, files: Files, folder: Path
+    counter: Counter, load: Load, program: Program, files: Files, folder: Path
 ) -> Optional[int]:
     """The instructions of a run. What the tool wrote stays in the folder."""
     tool = shutil.which(counter.command)
@@ -55,7 +55,8 @@ def counted(
         return None
     told = folder / f"{program.name}.{counter.command}"
     try:
-        run(Program(program.name, [tool, *counter.words(told), *program.command]), files)
+        traced = program._replace(command=[tool, *counter.words(told), *program.command])
+        run_once(load, traced, files)
         found = re.search(counter.count, told.read_text(), re.MULTILINE)
     except (Failure, OSError):
         return None  # The tool may not count here. That the program runs is known by now.
@@ -68,8 +69,9 @@ def counted_for_requests(
     """The instructions of a load without those of a start and an end."""
     nothing = Files(folder / "nothing", folder / "nothing", folder / "replies")
     nothing.requests.touch()
-    idle = counted(counter, run_on_files, program, nothing, folder)
-    busy = counted(counter, runner_of(load), program, files, folder)
+    idle = counted(counter, load._replace(is_one_at_a_time=False), program, nothing, folder)
+    fill(program, files)
+    busy = counted(counter, load, program, files, folder)
     return None if idle is None or busy is None else busy - idle
 
 
@@ -77,7 +79,7 @@ def count_instructions(
     name: str, load: Load, programs: List[Program], folder: Path
 ) -> Optional[float]:
     """The ratio of instructions on a smaller input, by the first tool that counts them here."""
-    files = write_load(name, max(load.count // TRACED_SHARE, 1), folder)
+    files = write_load(name, load, max(load.count // TRACED_SHARE, 1), folder)
     for counter in COUNTERS:
         ours, theirs = (
             counted_for_requests(counter, load, program, files, folder) for program in programs[:2]

@@ -28,13 +28,14 @@ def artist() -> Optional[str]:
 def draw_picture(python: str, all_measured: List[Measured]) -> None:
     """Has the picture drawn by a process of its own, so that the bench itself stays small."""
     bars = [
-        {"load": measured.title(), "what": what, "ratio": ratio, "aim": aim}
+        {"load": measured.title_of(aim), "what": what, "ratio": ratio, "aim": most}
         for measured in all_measured
-        for what, ratio, aim in (
-            ("time", measured.ratio(seconds), measured.load.aim.time),
-            ("memory", measured.ratio(memory), measured.load.aim.memory),
+        for aim in measured.load.aims
+        for what, ratio, most in (
+            ("time", measured.ratio(seconds, aim.beside), aim.time),
+            ("memory", measured.ratio(memory, aim.beside), aim.memory),
         )
-        if ratio
+        if ratio and most
     ]
     words = [python, str(Path(__file__).with_name("drawing.py")), str(PICTURE)]
     subprocess.run(words, input=json.dumps(bars), text=True, check=True)

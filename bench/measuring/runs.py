@@ -5,9 +5,10 @@ from __future__ import annotations
 import filecmp
 import os
 import resource
+import shutil
 import subprocess
 import time
-from typing import Callable, Dict, List, NamedTuple, Optional
+from typing import Dict, List, NamedTuple, Optional
 
 from loads import Load
 
@@ -22,7 +23,6 @@ class Cost(NamedTuple):
     memory: Optional[int]
 
 
-Runner = Callable[[Program, Files], Cost]
 Costs = Dict[str, List[Cost]]
 """The costs of each program's runs, by its name."""
 
@@ -68,7 +68,10 @@ def cut_frames(data: bytes) -> List[bytes]:
 def ask_in_turn(requests: int, replies: int, frames: List[bytes], wanted: List[bytes]) -> bool:
     """Sends each request once the reply before it has come. Tells whether all are as wanted."""
     for frame, want in zip(frames, wanted):
-        os.write(requests, frame)
+        try:
+            os.write(requests, frame)
+        except BrokenPipeError:
+            return False
         came = os.read(replies, len(want))
         while len(came) < len(want):
             piece = os.read(replies, len(want) - len(came))
@@ -98,15 +101,37 @@ def run_one_at_a_time(program: Program, files: Files) -> Cost:
     return Cost(seconds, usage.ru_utime + usage.ru_stime, memory_of(usage))
 
 
-def runner_of(load: Load) -> Runner:
-    return run_one_at_a_time if load.is_one_at_a_time else run_on_files
+def empty(program: Program) -> None:
+    """Leaves a program's folder empty, where it has one."""
+    if program.place:
+        shutil.rmtree(program.place, ignore_errors=True)
+        program.place.mkdir(parents=True)
+
+
+def run_once(load: Load, program: Program, files: Files) -> Cost:
+    """Runs a program on a load, over an empty folder or over what filled it."""
+    if files.filling is None:
+        empty(program)
+    run = run_one_at_a_time if load.is_one_at_a_time else run_on_files
+    return run(program, files)
+
+
+def fill(program: Program, files: Files) -> None:
+    """Fills a program's folder, where the load has it filled."""
+    if files.filling:
+        empty(program)
+        run_on_files(program, files.filling)
 
 
 def run_load(load: Load, programs: List[Program], files: Files, rounds: int) -> Costs:
     """Runs the programs in turn, so many times, and in each second round in reverse."""
-    run = runner_of(load)
     costs: Costs = {program.name: [] for program in programs}
+    for program in programs:
+        fill(program, files)
     for number in range(rounds):
         for program in programs if number % 2 == 0 else reversed(programs):
-            costs[program.name].append(run(program, files))
+            # So no run waits for what another one left to be written. One round alone compares replies.
+            if rounds > 1 and program.place:
+                os.sync()
+            costs[program.name].append(run_once(load, program, files))
     return costs

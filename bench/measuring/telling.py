@@ -11,11 +11,13 @@ from pathlib import Path
 from typing import List
 
 from .figures import Measured, amount, memory, processor, seconds, told, told_aim
-from .programs import BENCH, BESIDE, PLAIN, TOP
+from loads import Aim
+
+from .programs import BENCH, BESIDE, TOP
 
 FIGURES = BENCH / "figures.md"
 README = TOP / "README.md"
-WIDTHS = (34, 22, 22, 22, 14, 0)
+WIDTHS = (74, 22, 22, 22, 14, 0)
 COLUMNS = ("time", "processor time", "memory", "instructions", "aim at most")
 
 
@@ -27,10 +29,12 @@ def ratios_to(measured: Measured, other: str) -> List[str]:
     return [told(measured.ratio(figure, other)) for figure in (seconds, processor, memory)]
 
 
-def ratio_cells(measured: Measured) -> List[str]:
-    ratios = ratios_to(measured, PLAIN)
-    counted = "-" if measured.instructions is None else f"{measured.instructions:.2f}"
-    return [measured.title(), *ratios, counted, told_aim(measured)]
+def ratio_cells(measured: Measured, aim: Aim) -> List[str]:
+    """The ratios to the program that an aim is set to. Instructions are counted beside the first one."""
+    ratios = ratios_to(measured, aim.beside)
+    is_counted = measured.instructions is not None and aim is measured.load.aims[0]
+    counted = f"{measured.instructions:.2f}" if is_counted else "-"
+    return [measured.title_of(aim), *ratios, counted, told_aim(measured, aim)]
 
 
 def program_cells(measured: Measured, name: str) -> List[str]:
@@ -40,7 +44,8 @@ def program_cells(measured: Measured, name: str) -> List[str]:
 
 def report(measured: Measured) -> None:
     """Prints a load's ratios, and below them the medians of each program."""
-    print_row(ratio_cells(measured))
+    for aim in measured.load.aims:
+        print_row(ratio_cells(measured, aim))
     for name in measured.costs:
         print_row([f"    {name}", *program_cells(measured, name)])
     if BESIDE in measured.costs:
@@ -73,7 +78,7 @@ def table(head: List[str], rows: List[List[str]]) -> List[str]:
     return [row(head), "|" + "---|" * len(head), *map(row, rows)]
 
 
-def write_figures(all_measured: List[Measured], rounds: int, busy: float) -> None:
+def write_figures(all_measured: List[Measured], rounds: int, busy: float, disk: str) -> None:
     """Writes figures.md, and the ratios into README's table."""
     programs = [
         [measured.title(), name, *program_cells(measured, name)]
@@ -94,12 +99,13 @@ def write_figures(all_measured: List[Measured], rounds: int, busy: float) -> Non
                 ["processors", f"{os.cpu_count()}, {processor_name()}"],
                 ["load of the machine before", f"{busy:.1f}"],
                 ["rounds", str(rounds)],
+                ["file system of the files", disk],
             ],
         ),
         "",
         "Ratios of RemixDB to the plain program: the median of the rounds, the least and the greatest.",
         "",
-        *table(["Load", *(name.capitalize() for name in COLUMNS)], list(map(ratio_cells, all_measured))),
+        *table(["Load", *(name.capitalize() for name in COLUMNS)], ratio_rows(all_measured)),
         "",
         *beside_table(all_measured),
         "The medians of each program:",
@@ -111,6 +117,10 @@ def write_figures(all_measured: List[Measured], rounds: int, busy: float) -> Non
     write_short_table(all_measured)
 
 
+def ratio_rows(all_measured: List[Measured]) -> List[List[str]]:
+    return [ratio_cells(measured, aim) for measured in all_measured for aim in measured.load.aims]
+
+
 def beside_table(all_measured: List[Measured]) -> List[str]:
     """The ratios to another RemixDB, if one was measured."""
     rows = [[it.title(), *ratios_to(it, BESIDE)] for it in all_measured if BESIDE in it.costs]
@@ -120,12 +130,20 @@ def beside_table(all_measured: List[Measured]) -> List[str]:
     return ["Ratios to RemixDB as it was before, of the same rounds:", "", *table(head, rows), ""]
 
 
+def with_medians(text: str, measured: Measured, aim: Aim) -> str:
+    """The text with the medians that an aim is set to, in the row of this title."""
+    title = measured.title_of(aim)
+    figures = [(seconds, aim.time), (memory, aim.memory)]
+    ratios = [measured.ratio(figure, aim.beside) if most else None for figure, most in figures]
+    cells = [f"{it.median:.2f}" if it else "" for it in ratios]
+    old = rf"^\| {re.escape(title)} \|[^|]*\|[^|]*\|"
+    return re.sub(old, lambda _: f"| {title} | {' | '.join(cells)} |", text, flags=re.MULTILINE)
+
+
 def write_short_table(all_measured: List[Measured]) -> None:
     """Puts the medians into the rows of README's table that begin with a load's title."""
     text = README.read_text(encoding="utf-8")
     for measured in all_measured:
-        ratios = [measured.ratio(figure) for figure in (seconds, memory)]
-        cells = [f"{it.median:.2f}" if it else "" for it in ratios]
-        old = rf"^\| {re.escape(measured.title())} \|[^|]*\|[^|]*\|"
-        text = re.sub(old, lambda _: f"| {measured.title()} | {' | '.join(cells)} |", text, flags=re.MULTILINE)
+        for aim in measured.load.aims:
+            text = with_medians(text, measured, aim)
     README.write_text(text, encoding="utf-8")
