@@ -1,0 +1,6 @@
+pub mod PlanLemmas
+pub mod CutLemmas
+pub mod ApartLemmas
+pub mod PartLemmas
+pub mod PieceLemmas
+pub mod CompactionLemmas
