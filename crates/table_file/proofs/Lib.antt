@@ -1,0 +1,9 @@
+pub mod StepLemmas
+pub mod PlaceLemmas
+pub mod AgainLemmas
+pub mod TakenLemmas
+pub mod HeldLemmas
+pub mod PackLemmas
+pub mod OpenLemmas
+pub mod BlockPlaceLemmas
+pub mod LastLemmas
