@@ -28,12 +28,9 @@ fn counted<L: Ledger>(leaf: &Leaf, key: &Key, blank: Blank) -> bool
 }
 
 /// A prefix and two digits.
-fn numbered(alloc: Global, prefix: &[u8], number: u8) -> Result<Key, Fail>
-    requires { number < 100 }
-{
+fn numbered(alloc: Global, prefix: &[u8], number: u8) -> Result<Key, Fail> {
     let mut bytes = Vec::from_slice(alloc, prefix)?;
-    bytes.push(b'0' + number / 10)?;
-    bytes.push(b'0' + number % 10)?;
+    bytes.extend_from_slice(&[b'0' + number / 10, b'0' + number % 10])?;
     Ok(Key::try_new(alloc, bytes.as_slice())?)
 }
 
@@ -48,7 +45,12 @@ fn put(alloc: Global, leaf: &mut Leaf, key: Key, value: u8) -> Result<Option<Cha
 
 /// Puts the keys of a prefix and 00 to 31, which are new.
 fn put_32(alloc: Global, leaf: &mut Leaf, prefix: &[u8]) -> Result<(), Fail> {
-    for number in 0..32 {
+    put_from(alloc, leaf, prefix, 0)
+}
+
+/// Puts 32 keys of a prefix and a number from this one on, which are new.
+fn put_from(alloc: Global, leaf: &mut Leaf, prefix: &[u8], first: u8) -> Result<(), Fail> {
+    for number in first..first.saturating_add(32) {
         let key = numbered(alloc, prefix, number)?;
         if put(alloc, leaf, key, b'v')?.is_some() {
             return Err("the key was there")?;
@@ -57,12 +59,17 @@ fn put_32(alloc: Global, leaf: &mut Leaf, prefix: &[u8]) -> Result<(), Fail> {
     Ok(())
 }
 
+/// Whether these are an anchor's bytes.
+fn is_anchor(anchor: &Anchor, want: &[u8]) -> bool {
+    anchor.as_bytes() == want
+}
+
 /// Whether a full leaf tells this as the anchor of its split.
 fn tells_anchor(leaf: &Leaf, anchor: &mut Anchor, want: &[u8]) -> bool
     requires { length leaf.now.pairs ≡ LEAF_PAIRS_MAX }
 {
     leaf.split_anchor(anchor);
-    anchor.as_bytes() == want
+    is_anchor(anchor, want)
 }
 
 /// Splits a full leaf. Whether its anchor is this.
@@ -71,7 +78,7 @@ fn splits_at(leaf: &mut Leaf, right: &mut Leaf, anchor: &mut Anchor, want: &[u8]
     requires unused { right.old ≡ unused }
 {
     leaf.split_into(right, anchor);
-    anchor.as_bytes() == want
+    is_anchor(anchor, want)
 }
 
 /// Splits a leaf that is full, where its anchor is to be this one. The right leaf is the answer.
@@ -139,26 +146,21 @@ fn covers_alone(leaves: &[Leaf; 3], key: &Key, want: usize) -> bool {
     true
 }
 
-/// Whether a leaf has a key, and another leaf does not.
-fn is_in_one(there: &Leaf, other: &Leaf, key: &Key) -> bool {
-    there.find(key).is_some() && other.find(key).is_none()
+/// The leaves of k00 to k63, which fill one leaf.
+fn two_leaves(alloc: Global) -> Result<(Leaf, Leaf), Fail> {
+    let mut left = Leaf::make(alloc)?;
+    put_from(alloc, &mut left, b"k", 0)?;
+    put_from(alloc, &mut left, b"k", 32)?;
+    let right = split_at(alloc, &mut left, b"k32")?;
+    Ok((left, right))
 }
 
 #[test]
 fn k00_to_k63_split_at_k32(rt: HostRuntime) -> Result<(), Fail> {
-    let alloc = rt.alloc();
-    let mut left = Leaf::make(alloc)?;
-    for number in 0..64 {
-        let key = numbered(alloc, b"k", number)?;
-        put(alloc, &mut left, key, b'v')?;
-    }
-    assert!(rt; left.is_first() && left.is_last());
-    let right = split_at(alloc, &mut left, b"k32")?;
+    let (left, right) = two_leaves(rt.alloc())?;
     assert!(rt; has_ends(&left, b"k00", b"k31"));
     assert!(rt; has_ends(&right, b"k32", b"k63"));
     assert!(rt; are_halves(&left, &right));
-    assert!(rt; is_in_one(&left, &right, &numbered(alloc, b"k", 31)?));
-    assert!(rt; is_in_one(&right, &left, &numbered(alloc, b"k", 32)?));
     Ok(())
 }
 
@@ -168,9 +170,17 @@ fn are_halves(left: &Leaf, right: &Leaf) -> bool {
     begins && !right.is_first() && right.is_last() && !right.meets(left)
 }
 
+/// Whether a change is there and is this one, or neither is there.
+fn is_same(change: Option<&Change>, want: Option<&Change>) -> bool {
+    match (change, want) {
+        (Some(change), Some(want)) => change == want,
+        (change, want) => change.is_none() && want.is_none(),
+    }
+}
+
 /// Whether a leaf finds this at a key.
 fn finds(leaf: &Leaf, key: &Key, want: Option<&Change>) -> bool {
-    leaf.find(key) == want
+    is_same(leaf.find(key), want)
 }
 
 /// Puts a key with a value of one byte. Whether this was the old change.
@@ -181,7 +191,7 @@ fn replaces(
     value: u8,
     want: Option<&Change>,
 ) -> Result<bool, Fail> {
-    Ok(put(alloc, leaf, key, value)?.as_ref() == want)
+    Ok(is_same(put(alloc, leaf, key, value)?.as_ref(), want))
 }
 
 #[test]

@@ -1,5 +1,5 @@
 //! Shelves: what they hold, which of their calls fail, and what a crash leaves.
-use super::way;
+use super::{is_end, way};
 use crate::{DeviceError, MemoryShelf, Shelf, SteadyShelf};
 use std::alloc::Global;
 use std::process::Abort;
@@ -17,8 +17,8 @@ enum Call<'a> {
 
 fn shelf_of(alloc: Global, files: Files<'_>, failing: &[u64]) -> Result<MemoryShelf, Fail> {
     let mut owned = Vec::new(alloc);
-    for i in 0..files.len() {
-        owned.push((files[i].0, Vec::from_slice(alloc, files[i].1)?))?;
+    for (number, bytes) in files {
+        owned.push((*number, Vec::from_slice(alloc, bytes)?))?;
     }
     Ok(MemoryShelf::new(alloc, owned, Vec::from_slice(alloc, failing)?)?)
 }
@@ -46,17 +46,26 @@ fn remove<H: Shelf>(alloc: Global, shelf: &mut H, number: u64) -> Result<(), Dev
     shelf.remove(alloc, number)
 }
 
+fn is_file(found: Option<&[u8]>, bytes: Option<&[u8]>) -> bool {
+    match (found, bytes) {
+        (Some(found), Some(bytes)) => found == bytes,
+        (found, bytes) => found.is_none() && bytes.is_none(),
+    }
+}
+
 fn has<H: Shelf>(
     rt: &(impl Abort + AllocGlobal),
     shelf: &mut H,
     number: u64,
     bytes: Option<&[u8]>,
 ) -> Result<(), Fail> {
-    match (shelf.get(rt.alloc(), number)?, bytes) {
-        (Some(found), Some(bytes)) => assert!(rt; found.as_slice() == bytes),
-        (found, bytes) => assert!(rt; found.is_none() && bytes.is_none()),
-    }
+    let found = shelf.get(rt.alloc(), number)?;
+    assert!(rt; is_file(found.as_deref(), bytes));
     Ok(())
+}
+
+fn are(numbers: &[u64], wanted: &[u64]) -> bool {
+    numbers == wanted
 }
 
 fn lists<H: Shelf>(
@@ -64,8 +73,13 @@ fn lists<H: Shelf>(
     shelf: &mut H,
     numbers: &[u64],
 ) -> Result<(), Fail> {
-    assert!(rt; shelf.list(rt.alloc())?.as_slice() == numbers);
+    let found = shelf.list(rt.alloc())?;
+    assert!(rt; are(&found, numbers));
     Ok(())
+}
+
+fn count_of<H: Shelf>(alloc: Global, shelf: &mut H) -> Result<usize, DeviceError> {
+    Ok(shelf.list(alloc)?.len())
 }
 
 // The shelf has these files and no others.
@@ -74,9 +88,9 @@ fn has_all(
     shelf: &mut MemoryShelf,
     files: Files<'_>,
 ) -> Result<(), Fail> {
-    assert!(rt; shelf.list(rt.alloc())?.len() == files.len());
-    for i in 0..files.len() {
-        has(rt, shelf, files[i].0, Some(files[i].1))?;
+    assert!(rt; count_of(rt.alloc(), shelf)? == files.len());
+    for (number, bytes) in files {
+        has(rt, shelf, *number, Some(*bytes))?;
     }
     Ok(())
 }
@@ -106,11 +120,10 @@ fn removes_leave_the_others<H: Shelf>(
 
 #[test]
 fn shelves_hold_what_was_put(rt: HostRuntime) -> Result<(), Fail> {
-    let alloc = rt.alloc();
-    let mut memory = shelf_of(alloc, &[], &[])?;
+    let mut memory = shelf_of(rt.alloc(), &[], &[])?;
     puts_replace(&rt, &mut memory)?;
     removes_leave_the_others(&rt, &mut memory)?;
-    let mut steady = SteadyShelf::new(alloc);
+    let mut steady = SteadyShelf::new(rt.alloc());
     puts_replace(&rt, &mut steady)?;
     removes_leave_the_others(&rt, &mut steady)
 }
@@ -121,6 +134,10 @@ fn the_later_of_two_files_counts(rt: HostRuntime) -> Result<(), Fail> {
     has_all(&rt, &mut shelf, &[(1, b"b"), (4, b"c")])?;
     let mut shelf = shelf.crash(0);
     has_all(&rt, &mut shelf, &[(1, b"b"), (4, b"c")])
+}
+
+fn has_counted(shelf: &MemoryShelf, calls: u64, faults: u64) -> bool {
+    shelf.calls() == calls && shelf.faults() == faults
 }
 
 #[test]
@@ -135,87 +152,88 @@ fn exactly_the_listed_calls_fail(rt: HostRuntime) -> Result<(), Fail> {
         (Call::Put(2, b"two"), "ok"),
         (Call::List, "fault"),
     ];
-    for row in &calls {
-        let (call, end) = *row;
-        assert!(rt; ended(rt.alloc(), &mut shelf, call) == end);
+    for (call, end) in calls {
+        assert!(rt; is_end(ended(rt.alloc(), &mut shelf, call), end));
     }
-    assert_eq!(rt; shelf.calls(), 7);
-    assert_eq!(rt; shelf.faults(), 4);
+    assert!(rt; has_counted(&shelf, 7, 4));
     has_all(&rt, &mut shelf, &[(1, b"one"), (2, b"two")])
 }
 
-// What each of the four crashes leaves of a shelf that went through this. A second crash leaves the same.
-fn crashes_leave(
-    rt: &(impl Abort + AllocGlobal),
+// What this crash leaves of a shelf that went through this.
+fn crashed(
+    alloc: Global,
     failing: &[u64],
     calls: &[Call<'_>],
-    left: [Files<'_>; 4],
-) -> Result<(), Fail> {
+    pick: u64,
+) -> Result<MemoryShelf, Fail> {
+    let mut shelf = shelf_of(alloc, &[(1, b"one"), (3, b"three")], failing)?;
+    for call in calls {
+        ended(alloc, &mut shelf, *call);
+    }
+    Ok(shelf.crash(pick))
+}
+
+// Calls of which the ones with these numbers fail, and what each of the four crashes leaves then.
+type Crashes<'a> = (&'a [u64], &'a [Call<'a>], [Files<'a>; 4]);
+
+// A second crash leaves the same.
+fn crashes_leave(rt: &(impl Abort + AllocGlobal), row: &Crashes<'_>) -> Result<(), Fail> {
+    let (failing, calls, left) = *row;
     for pick in 0..4 {
-        let mut shelf = shelf_of(rt.alloc(), &[(1, b"one"), (3, b"three")], failing)?;
-        for call in calls {
-            ended(rt.alloc(), &mut shelf, *call);
-        }
-        let mut shelf = shelf.crash(pick as u64);
-        assert_eq!(rt; shelf.calls(), 0);
+        let mut shelf = crashed(rt.alloc(), failing, calls, pick as u64)?;
+        assert!(rt; shelf.calls() == 0);
         has_all(rt, &mut shelf, left[pick])?;
-        let mut shelf = shelf.crash(0);
-        has_all(rt, &mut shelf, left[pick])?;
+        let mut again = shelf.crash(0);
+        has_all(rt, &mut again, left[pick])?;
     }
     Ok(())
 }
 
 #[test]
-fn a_crash_leaves_what_was_put(rt: HostRuntime) -> Result<(), Fail> {
-    let left: Files<'static> = &[(1, b"1"), (2, b"two"), (3, b"three")];
-    crashes_leave(
-        &rt,
-        &[0],
-        &[
-            Call::Put(1, b"lost"),
-            Call::Put(1, b"1"),
-            Call::Put(2, b"two"),
-        ],
-        [left, left, left, left],
-    )
-}
-
-#[test]
-fn a_crash_after_a_failed_put_leaves_what_is_picked(rt: HostRuntime) -> Result<(), Fail> {
-    crashes_leave(
-        &rt,
-        &[0],
-        &[Call::Put(1, b"abcde")],
-        [
-            &[(3, b"three")],
-            &[(1, b"abcde"), (3, b"three")],
-            &[(1, b"ab"), (3, b"three")],
-            &[(1, b"\xA5\xA5\xA5\xA5\xA5"), (3, b"three")],
-        ],
-    )?;
-    crashes_leave(
-        &rt,
-        &[0],
-        &[Call::Put(2, b"x"), Call::Remove(2)],
-        [
-            &[(1, b"one"), (3, b"three")],
-            &[(1, b"one"), (2, b"x"), (3, b"three")],
-            &[(1, b"one"), (2, b""), (3, b"three")],
-            &[(1, b"one"), (2, b"\xA5"), (3, b"three")],
-        ],
-    )
-}
-
-#[test]
-fn a_crash_may_undo_a_remove(rt: HostRuntime) -> Result<(), Fail> {
-    let kept: Files<'static> = &[(1, b"one"), (3, b"three")];
-    let gone: Files<'static> = &[(1, b"one")];
-    crashes_leave(&rt, &[], &[Call::Remove(3)], [kept, gone, gone, gone])?;
-    crashes_leave(&rt, &[0], &[Call::Remove(3)], [kept, gone, gone, gone])?;
-    crashes_leave(
-        &rt,
-        &[0],
-        &[Call::Remove(3), Call::Remove(3), Call::Remove(9)],
-        [kept, gone, gone, gone],
-    )
+fn a_crash_leaves_what_is_picked(rt: HostRuntime) -> Result<(), Fail> {
+    let put: Files<'_> = &[(1, b"1"), (2, b"two"), (3, b"three")];
+    let kept: Files<'_> = &[(1, b"one"), (3, b"three")];
+    let gone: Files<'_> = &[(1, b"one")];
+    let rows: &[Crashes<'_>] = &[
+        (
+            &[0],
+            &[
+                Call::Put(1, b"lost"),
+                Call::Put(1, b"1"),
+                Call::Put(2, b"two"),
+            ],
+            [put, put, put, put],
+        ),
+        (
+            &[0],
+            &[Call::Put(1, b"abcde")],
+            [
+                &[(3, b"three")],
+                &[(1, b"abcde"), (3, b"three")],
+                &[(1, b"ab"), (3, b"three")],
+                &[(1, b"\xA5\xA5\xA5\xA5\xA5"), (3, b"three")],
+            ],
+        ),
+        (
+            &[0],
+            &[Call::Put(2, b"x"), Call::Remove(2)],
+            [
+                kept,
+                &[(1, b"one"), (2, b"x"), (3, b"three")],
+                &[(1, b"one"), (2, b""), (3, b"three")],
+                &[(1, b"one"), (2, b"\xA5"), (3, b"three")],
+            ],
+        ),
+        (&[], &[Call::Remove(3)], [kept, gone, gone, gone]),
+        (&[0], &[Call::Remove(3)], [kept, gone, gone, gone]),
+        (
+            &[0],
+            &[Call::Remove(3), Call::Remove(3), Call::Remove(9)],
+            [kept, gone, gone, gone],
+        ),
+    ];
+    for row in rows {
+        crashes_leave(&rt, row)?;
+    }
+    Ok(())
 }
