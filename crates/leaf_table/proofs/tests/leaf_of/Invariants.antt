@@ -1,0 +1,5 @@
+-- The ledger of the steps.
+use Rattle.leaf_table.proofs.tests.leaf_of.Given as goal
+
+abbrev pub ghosts-counted_leaf : goal.ghosts-counted_leaf
+ghosts-counted_leaf a = record { name = a.blank.name; parts = a.blank.parts }

@@ -1,0 +1,4 @@
+pub mod Chains
+pub mod Tables
+pub mod Splits
+pub mod Refusals
