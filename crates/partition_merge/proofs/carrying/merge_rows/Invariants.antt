@@ -1,0 +1,13 @@
+use Rattle.std.proofs.Common.{◌∷◌, length, map}
+use Rattle.rdb_base.specs.Levels.{merged}
+use Rattle.partition_merge.specs.Merging.{IsMergeAt, rows_left}
+use Rattle.partition_merge.specs.Pieces.{IsMerged}
+use Rattle.partition_merge.proofs.carrying.merge_rows.Given as goal
+
+abbrev pub invariant-rows : goal.invariant-rows
+invariant-rows g l =
+    IsMerged (merged (l.newer ∷ map g.T.Runs.run l.runs)) (rows_left (map g.T.Runs.run l.runs) l.remix.view l.newer l.place) l.run
+    × IsMergeAt (map g.T.Runs.run l.runs) l.remix.view l.newer l.place
+
+abbrev pub decreases-rows : goal.decreases-rows
+decreases-rows g l = length (rows_left (map g.T.Runs.run l.runs) l.remix.view l.newer l.place)
