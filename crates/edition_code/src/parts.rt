@@ -113,6 +113,11 @@ fn part<'a>(
     ))
 }
 
+/// How many numbers are kept as marks: those that were drawn, but no more than there are bytes.
+fn marks(next: u64, len: usize) -> usize {
+    next.min(len as u64) as usize
+}
+
 /// So many partitions. Once the first was found whole, room is taken for as many as the bytes can have.
 pub(crate) fn parts<'a>(
     alloc: Global,
@@ -123,15 +128,15 @@ pub(crate) fn parts<'a>(
     ensures exact { GivesFields (λ x. (x.0.items, x.1.now)) result (parts_at count next true [] [] bytes.now) }
     ensures memory { IfErr result (λ error. IfFieldMemory error (IsOk (part_head_at true [] bytes.now))) }
 {
-    let mut seen = FileNumbers::new(alloc, bytes.len());
+    let mut seen = FileNumbers::new(alloc, marks(next, bytes.len()));
     let mut parts = Vec::new(alloc);
     let mut last: &[u8] = &[];
     let mut rest = bytes;
     'parts: for done in 0..count {
         match part(alloc, next, done == 0, last, &mut seen, rest) {
             Ok((one, low, more)) => {
-                let left = (more.len() / PART_LEN).min((count - done) as usize);
-                let Ok(()) = add_part(&mut parts, one, left) else {
+                let room = (more.len() / PART_LEN + 1).min((count - done) as usize);
+                let Ok(()) = add_part(&mut parts, one, room) else {
                     return Err(FieldError::Memory);
                 };
                 last = low;
@@ -143,12 +148,12 @@ pub(crate) fn parts<'a>(
     Ok((parts, rest))
 }
 
-/// Adds a partition. The first one takes room for so many more.
-fn add_part(parts: &mut Vec<EditionPart>, part: EditionPart, more: usize) -> Result<(), NoMemory>
+/// Adds a partition. The first one takes room for so many.
+fn add_part(parts: &mut Vec<EditionPart>, part: EditionPart, room: usize) -> Result<(), NoMemory>
     ensures { OnOk result (parts.new.items ≡ parts.old.items ++ part ∷ []) }
 {
     if parts.is_empty() {
-        parts.reserve(more)?;
+        parts.reserve(room)?;
     }
     parts.push(part)?;
     Ok(())
