@@ -4,3 +4,4 @@ pub mod ApartLemmas
 pub mod PartLemmas
 pub mod PieceLemmas
 pub mod CompactionLemmas
+pub mod CompactionExample
