@@ -1,0 +1,5 @@
+-- The ledger of the steps.
+use Rattle.memory_rows.proofs.memory_rows.MemoryRows.find.Given as goal
+
+abbrev pub ghosts-find_in : goal.ghosts-find_in
+ghosts-find_in a = record { name = a.blank.name; parts = a.blank.parts }
