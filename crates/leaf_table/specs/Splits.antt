@@ -35,6 +35,7 @@ pub record HasNoNodes (leaves : List LeafState) (key : List ℕ) : Type 0 where
   pub table : IsTable numbered order added
   pub same : leaves ≡ chain_of numbered order
   pub number : ℕ
+  pub within : number < length numbered
   pub covered : covers (leaf_at numbered number) key ≡ true
   pub anchor : List ℕ
   pub parts : PartsAt (leaf_at numbered number).pairs LEAF_PAIRS_KEPT anchor

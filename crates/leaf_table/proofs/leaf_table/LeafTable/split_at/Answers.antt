@@ -45,6 +45,7 @@ returns-in_err-right-clause-full g c =
       table = c.self.invariant.0;
       same = sym c.self.view_is;
       number = c.find-number.result;
+      within = p.here.2;
       covered = covered c.self.inside.leaves.items c.self.inside.order.items c.args.key.now c.find-number.result p.here;
       anchor = c.prepare.new.anchor;
       parts = p.parts;
