@@ -71,6 +71,13 @@ fn is_started(segment: &Segment<MemoryStrip>) -> bool {
     segment.is_started()
 }
 
+/// The segment of an empty strip, which has no header.
+fn empty_segment(alloc: Global) -> Result<Segment<MemoryStrip>, Fail> {
+    let strip = strip_of(alloc, b"", &[])?;
+    let (segment, _entries) = opened(alloc, strip)?;
+    Ok(segment)
+}
+
 /// Whether so many bytes are pending, and this is the number after the last entry.
 fn has(segment: &Segment<MemoryStrip>, pending: usize, end: u64) -> bool {
     segment.pending() == pending && segment.end() == end
@@ -97,10 +104,7 @@ fn holds(strip: &MemoryStrip, bytes: &[u8]) -> bool {
 
 #[test]
 fn a_put_that_is_flushed_has_these_bytes(rt: HostRuntime) -> Result<(), Fail> {
-    let mut segment = match open(rt.alloc(), strip_of(rt.alloc(), b"", &[])?) {
-        Ok((segment, _entries)) => segment,
-        Err(_refused) => return Err("an empty strip is refused")?,
-    };
+    let mut segment = empty_segment(rt.alloc())?;
     assert!(rt; !is_started(&segment));
     start(rt.alloc(), &mut segment)?;
     let entry = entry_of(rt.alloc(), 0, b"a")?;

@@ -147,20 +147,20 @@ fn covers_alone(leaves: &[Leaf; 3], key: &Key, want: usize) -> bool {
 }
 
 /// The leaves of k00 to k63, which fill one leaf.
-fn two_leaves(alloc: Global) -> Result<(Leaf, Leaf), Fail> {
+fn two_leaves(alloc: Global) -> Result<[Leaf; 2], Fail> {
     let mut left = Leaf::make(alloc)?;
     put_from(alloc, &mut left, b"k", 0)?;
     put_from(alloc, &mut left, b"k", 32)?;
     let right = split_at(alloc, &mut left, b"k32")?;
-    Ok((left, right))
+    Ok([left, right])
 }
 
 #[test]
 fn k00_to_k63_split_at_k32(rt: HostRuntime) -> Result<(), Fail> {
-    let (left, right) = two_leaves(rt.alloc())?;
-    assert!(rt; has_ends(&left, b"k00", b"k31"));
-    assert!(rt; has_ends(&right, b"k32", b"k63"));
-    assert!(rt; are_halves(&left, &right));
+    let leaves = two_leaves(rt.alloc())?;
+    assert!(rt; has_ends(&leaves[0], b"k00", b"k31"));
+    assert!(rt; has_ends(&leaves[1], b"k32", b"k63"));
+    assert!(rt; are_halves(&leaves[0], &leaves[1]));
     Ok(())
 }
 
