@@ -5,3 +5,4 @@ pub mod PartLemmas
 pub mod PieceLemmas
 pub mod CompactionLemmas
 pub mod CompactionExample
+pub mod PlannedLemmas

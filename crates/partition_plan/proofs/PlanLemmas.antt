@@ -31,7 +31,7 @@ carry-fits may_abort kept size h =
     let one : nat_le (kept + size.new) CARRIED_MAX ≡ true = and_first (nat_le (kept + size.new) CARRIED_MAX) (nat_le size.carried_age AGE_MAX) two in
     grind (arith, nat_tests)
 
-kept_after-decided : (may_abort : Bool) (kept count : ℕ) (size : PartSize) → kept ≤ CARRIED_MAX → kept_after (decided may_abort kept count size) kept size ≤ CARRIED_MAX
+pub kept_after-decided : (may_abort : Bool) (kept count : ℕ) (size : PartSize) → kept ≤ CARRIED_MAX → kept_after (decided may_abort kept count size) kept size ≤ CARRIED_MAX
 kept_after-decided may_abort kept count size le = by_tests (may_carry may_abort kept size) (may_add_run size) (may_stay_one count size) refl
   where
     by_tests : (a b c : Bool) → may_carry may_abort kept size ≡ a → kept_after (cond a Abort (cond b Minor (cond c Major Split))) kept size ≤ CARRIED_MAX
@@ -57,7 +57,7 @@ split-fits count size h =
     let few : nat_lt PARTITIONS_MAX (split_count count size.parts) ≡ false = or_neither (nat_le size.merged PARTITION_MAX) (nat_lt PARTITIONS_MAX (split_count count size.parts)) h in
     grind (arith, nat_tests)
 
-count_after-decided : (may_abort : Bool) (kept count : ℕ) (size : PartSize) → count ≤ PARTITIONS_MAX → count_after (decided may_abort kept count size) count size ≤ PARTITIONS_MAX
+pub count_after-decided : (may_abort : Bool) (kept count : ℕ) (size : PartSize) → count ≤ PARTITIONS_MAX → count_after (decided may_abort kept count size) count size ≤ PARTITIONS_MAX
 count_after-decided may_abort kept count size le = by_tests (may_carry may_abort kept size) (may_add_run size) (may_stay_one count size) refl
   where
     by_tests : (a b c : Bool) → may_stay_one count size ≡ c → count_after (cond a Abort (cond b Minor (cond c Major Split))) count size ≤ PARTITIONS_MAX

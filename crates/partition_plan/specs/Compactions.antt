@@ -1,5 +1,5 @@
 -- Partitions, their new data, and what a whole compaction makes of them.
-use Rattle.std.specs.Prelude.{◌≡◌, ℕ, ◌+◌, Bool, true, List, [], ◌∷◌, ◌++◌, length, drop, get_or, Option, Some, None}
+use Rattle.std.specs.Prelude.{◌≡◌, ℕ, ◌+◌, ◌-◌, Bool, true, false, List, [], ◌∷◌, ◌++◌, length, drop, get_or, Option, Some, None}
 use Rattle.std.specs.List.{AllByRecursion, sum_by}
 use Rattle.rdb_base.specs.Ranges.{in_range, IsBelow}
 use Rattle.rdb_base.specs.Runs.{IsRun, sizes}
@@ -8,7 +8,7 @@ use Rattle.rdb_base.specs.Pages.{pairs_from}
 use Rattle.rdb_base.specs.PageLaws.{rows_size}
 use Rattle.rdb_base.specs.declared.pair.Pair.{Pair}
 use Rattle.partition_plan.specs.declared.decision.Decision.{Decision}
-use Rattle.partition_plan.specs.declared.decision.Decision.TheVariants.{Abort}
+use Rattle.partition_plan.specs.declared.decision.Decision.TheVariants.{Abort, Minor, Major, Split}
 use Rattle.partition_plan.specs.declared.part_size.PartSize.{PartSize}
 use Rattle.partition_plan.specs.Plans.{planned}
 use Rattle.partition_plan.specs.Pieces.{PieceState, pieces_of, carried_of, runs_of_piece, split_parts}
@@ -57,6 +57,12 @@ news [] new = []
 news (part ∷ []) new = new ∷ []
 news (part ∷ next ∷ parts) new = pairs_below next.low new ∷ news (next ∷ parts) (pairs_from new next.low)
 
+-- the age of new data: the number of the log segment in use less that of their oldest entry's, also of an overwritten one; 0 where
+-- that is not known to be older
+abbrev pub age_of : ℕ → Option ℕ → ℕ
+age_of active None = 0
+age_of active (Some oldest) = active - oldest
+
 -- the sizes of the partition at an index with its new pairs, of this age
 abbrev pub sizes_of : ℕ → PartRuns → List Pair → ℕ → PartSize
 sizes_of index part new age =
@@ -89,6 +95,15 @@ abbrev pub spread : List Decision → List (List Pair) → List Decision
 spread decisions [] = []
 spread decisions ([] ∷ news) = Abort ∷ spread decisions news
 spread decisions ((pair ∷ new) ∷ news) = get_or decisions 0 Abort ∷ spread (drop 1 decisions) news
+
+-- Whether the new pairs of a partition were aborted. Where there are none, nothing was: then, as after each other decision, its
+-- base number may rise.
+abbrev pub is_aborted : Decision → List Pair → Bool
+is_aborted decision [] = false
+is_aborted Abort (pair ∷ new) = true
+is_aborted Minor (pair ∷ new) = false
+is_aborted Major (pair ∷ new) = false
+is_aborted Split (pair ∷ new) = false
 
 -- ---- a compaction
 

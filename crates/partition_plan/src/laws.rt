@@ -1,7 +1,7 @@
 //! What holds of every plan, cut and compaction, as calls that carry it in their contracts. They do nothing.
 ghost use Rattle.partition_plan.specs.PlanLaws.{OneDecisionEach, CarriesLittle, LeavesFewParts, AbortsIfAllowed};
 ghost use Rattle.partition_plan.specs.CutLaws.{CutKeepsRows, PartsFit, PartsHaveRows, PartsAreFull};
-ghost use Rattle.partition_plan.specs.CompactionLaws.{PiecesKeepRows, CompactionKeepsMap, AbortsKeepAll};
+ghost use Rattle.partition_plan.specs.CompactionLaws.{PiecesKeepRows, NewRunsHavePairs, CompactionKeepsMap, AbortsKeepAll, PlanLeavesFewParts, PlanLeavesFewRuns, PlanCarriesLittle};
 
 /// Each member of a plan has one decision. What is carried on and the number of partitions stay within their limits, and
 /// nothing is carried on where that is not allowed.
@@ -21,9 +21,10 @@ pub fn cut_of_rows()
 {}
 
 /// Whatever is decided for a partition, the rows of what is carried on over its pieces are those of the new pairs over its
-/// runs, and the pieces follow one another in its range.
+/// runs, and the pieces follow one another in its range. Each new run has a pair if there is a new one.
 pub fn pieces_of_partition()
     ensures rows { PiecesKeepRows }
+    ensures pairs { NewRunsHavePairs }
 {}
 
 /// Whatever is decided, a compaction keeps the rows: those of what is carried on over the partitions. Aborts alone leave the
@@ -31,4 +32,11 @@ pub fn pieces_of_partition()
 pub fn compaction_of_partitions()
     ensures rows { CompactionKeepsMap }
     ensures aborts { AbortsKeepAll }
+{}
+
+/// After the compaction that was planned the numbers of partitions and of runs, and what is carried on, are within their limits.
+pub fn compaction_of_plan()
+    ensures parts { PlanLeavesFewParts }
+    ensures runs { PlanLeavesFewRuns }
+    ensures carried { PlanCarriesLittle }
 {}

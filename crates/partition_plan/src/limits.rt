@@ -10,7 +10,7 @@ pub const CARRIED_MAX: u64 = 1_048_576;
 
 const _: () = prove!(CARRIED_MAX == 1048576);
 
-/// The most log segments that lie between the one in use and the oldest entry that is carried on.
+/// The most that the number of the log segment in use may be above that of the oldest entry that is carried on.
 pub const AGE_MAX: u64 = 5;
 
 const _: () = prove!(AGE_MAX == 5);

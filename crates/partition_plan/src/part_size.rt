@@ -5,8 +5,8 @@ pub struct PartSize {
     pub part: u32,
     /// The sizes of its new pairs, the newest change of each key.
     pub new: u64,
-    /// How many log segments lie between the one in use and the one of its oldest new entry. It is 0 if that one is not
-    /// known to be older.
+    /// The number of the log segment in use, less that of the segment with the partition's oldest entry that is in no
+    /// run, also if that entry was overwritten. It is 0 if that segment is not known to be older.
     pub carried_age: u64,
     /// How many runs it has.
     pub runs: u32,

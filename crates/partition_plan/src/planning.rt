@@ -11,12 +11,12 @@ pub fn plan(sizes: &[PartSize], partitions: u32, may_abort: bool, into: &mut Vec
     requires empty { into.old.items ≡ [] }
     requires room { length sizes.now ≤ vec_capacity into.old }
     ensures decisions { into.new.items ≡ planned may_abort 0 partitions sizes.now }
-    ensures capacity { vec_capacity into.old ≤ vec_capacity into.new }
+    ensures capacity { vec_capacity into.new ≡ vec_capacity into.old }
 {
     let mut so_far = SoFar::new(partitions);
     'members: for size in sizes {
         let decision = so_far.decide(size, may_abort);
         so_far = so_far.after(size, may_abort, decision);
-        into.push(decision).unwrap();
+        into.push_reserved(decision);
     }
 }

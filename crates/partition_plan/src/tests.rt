@@ -1,5 +1,8 @@
 //! The worked plan, a plan for every limit, and sizes that no partition has.
-use crate::laws::{compaction_of_partitions, cut_of_rows, decisions_of_plan, pieces_of_partition};
+use crate::laws::{
+    compaction_of_partitions, compaction_of_plan, cut_of_rows, decisions_of_plan,
+    pieces_of_partition,
+};
 use crate::{Decision, PartSize, plan};
 use std::process::Abort;
 use std::test::Fail;
@@ -155,5 +158,6 @@ fn the_laws_hold(_rt: HostRuntime) -> Result<(), Fail> {
     cut_of_rows();
     pieces_of_partition();
     compaction_of_partitions();
+    compaction_of_plan();
     Ok(())
 }

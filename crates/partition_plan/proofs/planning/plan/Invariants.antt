@@ -1,4 +1,4 @@
-use Rattle.std.proofs.Common.{◌≡◌, ◌≤◌, ◌++◌, drop, length, vec_capacity}
+use Rattle.std.proofs.Common.{◌≡◌, ◌++◌, drop, length, vec_capacity}
 use Rattle.partition_plan.specs.Plans.{planned}
 use Rattle.partition_plan.proofs.planning.plan.Given as goal
 
@@ -7,5 +7,5 @@ abbrev pub invariant-members : goal.invariant-members
 invariant-members l = record {
   all : l.into.items ++ planned l.may_abort l.so_far.kept l.so_far.count (drop l.size-index l.sizes) ≡ planned l.may_abort 0 l.partitions l.sizes;
   one_each : length l.into.items ≡ l.size-index;
-  capacity : vec_capacity l.initial.into ≤ vec_capacity l.into;
+  capacity : vec_capacity l.into ≡ vec_capacity l.initial.into;
 }
