@@ -2,6 +2,8 @@ ghost use Rattle.std.specs.Prelude.{◌≡◌, ◌<◌, ◌∷◌, [], map, leng
 ghost use Rattle.rdb_base.specs.Levels.{merged};
 ghost use Rattle.rdb_base.specs.Runs.{IsRun};
 ghost use Rattle.remix_seek.specs.Indexes.{Indexes};
+ghost use Rattle.partition_plan.specs.declared.decision.Decision.TheVariants.{Minor};
+ghost use Rattle.partition_plan.specs.declared.limits.TheConstants.{RUNS_MAX};
 ghost use Rattle.partition_plan.specs.Pieces.{pieces_of, pieces_from, put_pairs, split_parts};
 ghost use Rattle.partition_merge.specs.Pieces.{KeepsRows};
 
@@ -20,7 +22,7 @@ use std::sync::ledger::{Blank, Ledger};
 /// Carries a decision out: the pieces that new pairs, the newest change of each key, make of a partition.
 ///
 /// - Abort leaves the partition as it is, and the new pairs out.
-/// - Minor makes the new pairs a run above the old ones.
+/// - Minor makes the new pairs a run above the old ones. There has to be a new pair, and room for a run more.
 /// - Major makes one run of the rows of new and old pairs, without older versions and deletions, or none of no row.
 /// - Split cuts the same rows into parts of at most `PART_MAX` bytes. The first has the bound of the partition, each
 ///   further one its own first key.
@@ -30,7 +32,8 @@ pub fn carry_out<T: Runs>(
     new: &SortedRun,
     decision: Decision,
 ) -> Result<Vec<Piece>, NoMemory>
-    requires { Indexes (map T.run part.now.runs) part.now.view part.now.anchors }
+    requires index { Indexes (map T.run part.now.runs) part.now.view part.now.anchors }
+    requires minor { decision ≡ Minor → (0 < length new.now) × (length part.now.runs < RUNS_MAX) }
     ensures pieces { IfOk result (λ pieces.
         pieces.items ≡ pieces_of decision part.now.low (map T.run part.now.runs) new.now) }
     ensures kept { IfOk result (λ pieces.

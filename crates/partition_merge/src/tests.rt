@@ -22,8 +22,8 @@ use std::test::Fail;
 
 const KEYS: u8 = 81;
 
-/// The levels of the old runs of each case. The new pairs are level 0.
-const CASES: [&[u8]; 3] = [&[1, 2, 3], &[2], &[]];
+/// The levels of the old runs of each case, which may come again. The new pairs are level 0.
+const CASES: [&[u8]; 4] = [&[1, 2, 3], &[1, 2, 3, 1, 2, 3, 1], &[2], &[]];
 
 /// What a level has at a key: nothing at 0, a deletion at 1, a put at 2. It is a digit of a number with three of them.
 fn choice(number: u8, level: u8) -> u8 {
@@ -188,6 +188,9 @@ fn pieces_by(
 ) -> Result<Vec<Piece>, Fail>
     requires { Indexes (map (λ run. run) part.now.runs) part.now.view part.now.anchors }
 {
+    if new.len() == 0 || part.runs.len() > 7 {
+        return Err("no new pair, or no room for a run")?;
+    }
     Ok(carry_out(alloc, part, new, decision)?)
 }
 
