@@ -2,7 +2,7 @@
 use Rattle.std.specs.Prelude.{◌≡◌, ◌<◌, ◌+◌, ◌⊎◌, ℕ, List, ◌∷◌, ◌++◌, length, take, drop, Some, true}
 use Rattle.worm_leaf.specs.Anchors.{PartsAt}
 use Rattle.worm_leaf.specs.Leaves.{LeafState, covers}
-use Rattle.worm_leaf.specs.declared.limits.TheConstants.{LEAF_PAIRS_KEPT}
+use Rattle.worm_leaf.specs.declared.limits.TheConstants.{LEAF_PAIRS_MAX, LEAF_PAIRS_KEPT}
 use Rattle.meta_trie.specs.Tries.{Anchored, nodes_of, nodes_for}
 use Rattle.meta_trie.specs.declared.limits.TheConstants.{NODES_MAX}
 use Rattle.leaf_table.specs.Tables.{leaf_at, chain_of, IsTable}
@@ -27,7 +27,7 @@ pub record SplitsAt (leaves : List LeafState) (key : List ℕ) (after : List Lea
   pub parts : PartsAt leaf.pairs LEAF_PAIRS_KEPT anchor
   pub effect : after ≡ before ++ left_half leaf anchor ∷ right_half leaf anchor ∷ behind
 
--- the trie that has the low bounds of these leaves has no room for the nodes of the anchor that splits the leaf of a key
+-- the trie that has the low bounds of these leaves has no room for the nodes of the anchor that splits the full leaf of a key
 pub record HasNoNodes (leaves : List LeafState) (key : List ℕ) : Type 0 where
   pub numbered : List LeafState
   pub order : List ℕ
@@ -37,6 +37,7 @@ pub record HasNoNodes (leaves : List LeafState) (key : List ℕ) : Type 0 where
   pub number : ℕ
   pub within : number < length numbered
   pub covered : covers (leaf_at numbered number) key ≡ true
+  pub pairs : length (leaf_at numbered number).pairs ≡ LEAF_PAIRS_MAX
   pub anchor : List ℕ
   pub parts : PartsAt (leaf_at numbered number).pairs LEAF_PAIRS_KEPT anchor
   pub full : NODES_MAX < nodes_of added + nodes_for added anchor

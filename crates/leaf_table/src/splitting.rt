@@ -38,6 +38,7 @@ impl LeafTable {
         ensures room { OnOk result (HasRoomAt self.new key.now) }
         ensures refused { OnErr result (self.new ≡ self.old) }
         ensures full { IsErrOf result SplitError.Full → IsFullAt self.old key.now }
+        ensures memory { IsErrOf result SplitError.Memory → length self.old < LEAVES_MAX }
         ensures cost { IsLogarithmic (length key.now) (steps.old + 2) steps.new }
     {
         let number = self.trie.find(key.as_bytes(), steps);

@@ -48,9 +48,15 @@ returns-in_err-right-clause-full g c =
       within = p.here.2;
       covered = covered c.self.inside.leaves.items c.self.inside.order.items c.args.key.now c.find-number.result p.here;
       anchor = c.prepare.new.anchor;
+      pairs = p.full;
       parts = p.parts;
       full = c.prepare.ensures.nodes (err-on c.prepare.result c.from_residual.result c.in_err-right.field-0.0 Full c.in_err-right.was same e);
     })
+
+pub returns-in_err-right-clause-memory : goal.returns-in_err-right-clause-memory
+returns-in_err-right-clause-memory g c =
+    let each = length-map c.self.inside.order.items (leaf_at c.self.inside.leaves.items) in
+    λ e. omega (arith, c.if-new-eq-LEAVES_MAX.false, c.len-new.ensures, c.self.invariant.2.most, c.self.invariant.2.each, each, ap length c.self.view_is, c.self.inside.leaves.ok.0)
 
 pub add-requires-clause-new : goal.add-requires-clause-new
 add-requires-clause-new g c =
