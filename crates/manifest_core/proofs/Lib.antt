@@ -1,0 +1,4 @@
+pub mod ReadLemmas
+pub mod KeptLemmas
+pub mod PairLemmas
+pub mod OpenLemmas

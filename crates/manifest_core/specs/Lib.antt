@@ -1,0 +1,9 @@
+pub mod Manifests
+pub mod ManifestState
+pub mod Pairs
+pub mod CommitErrors
+pub mod Commits
+pub mod Steps
+pub mod Told
+pub mod Kept
+pub mod Openings
