@@ -85,7 +85,8 @@ def check_index(pages: List[Page], sources: Sources, findings: Findings) -> None
     index = "\n".join(paths[INDEX].lines) if INDEX in paths else ""
     for name in sources.crates:
         page = f"docs/promises/{name}.md"
-        findings.look(page in paths, "crates.txt", 1, f"{name} has no page {page}")
+        is_there = page in paths and any(line.strip() for line in paths[page].lines)
+        findings.look(is_there, "crates.txt", 1, f"{name} has no page {page}, or an empty one")
         findings.look(f"]({name}.md)" in index, INDEX, 1, f"no link leads to {name}.md")
 
 

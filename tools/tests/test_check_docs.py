@@ -222,8 +222,13 @@ class Floors(Checked):
     def test_a_crate_without_a_page(self) -> None:
         (self.top / "docs/promises/low.md").unlink()
         self.write("docs/promises/README.md", "[high](high.md)\n")
-        wanted = ["crates.txt:1: low has no page docs/promises/low.md"]
+        wanted = ["crates.txt:1: low has no page docs/promises/low.md, or an empty one"]
         wanted += ["docs/promises/README.md:1: no link leads to low.md"]
+        self.assertEqual(self.wrong(), wanted)
+
+    def test_a_page_that_is_empty(self) -> None:
+        self.write("docs/promises/low.md", "\n")
+        wanted = ["crates.txt:1: low has no page docs/promises/low.md, or an empty one"]
         self.assertEqual(self.wrong(), wanted)
 
 
