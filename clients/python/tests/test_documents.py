@@ -54,9 +54,9 @@ class Commands(unittest.TestCase):
             folder = fresh_folder(self)
             for command, wanted in commands_in(TOP / page):
                 with self.subTest(page=page, command=command):
+                    command = FOLDER.sub(folder, command)
                     # The program of the tests is the repository's own, if no other is named.
                     command = command.replace("./remixdb", program_path())
-                    command = FOLDER.sub(folder, command)
                     run = subprocess.run(
                         ["sh", "-c", command], cwd=TOP, capture_output=True, timeout=SECONDS
                     )
