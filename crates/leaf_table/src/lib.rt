@@ -2,13 +2,13 @@
 //!
 //! Stands for   leaves by rising ranges, which part all keys (`specs/Chains.antt`, `PartsAll`), and so one sorted run:
 //!              `pairs_of`
-//! Promises     a find gives the run's change at the key; a put sets one pair and takes no memory; a full leaf is
+//! Promises     a find gives the run's change at the key; a put sets one pair and cannot fail; a full leaf is
 //!              split in two, and no pair is lost; a refused split changes nothing
 //! Goes in      pairs, moved
 //! Comes out    changes, lent; all pairs, moved
 //! Stands on    rdb_base, worm_leaf, meta_trie
-//! Begin at     src/leaf_table.rt, `LeafTable`
-//! Leaves open  that there is memory; that a split is refused as full only where it has to be
+//! Begin at     src/leaf_table.rt, `LeafTable`; then src/splitting.rt and src/emptying.rt
+//! Leaves open  that there is memory; that a split for which the trie has no room is refused as full, not as out of memory
 #![tactic(auto)]
 
 mod emptying;

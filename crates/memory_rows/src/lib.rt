@@ -2,7 +2,7 @@
 //!
 //! Stands for   one sorted run of changes, deletions told as such (`specs/Memories.antt`, `level`)
 //! Promises     a find lends the change at a key, without a copy; room for one change is made first, or refused for
-//!              memory, and then all is as it was; the change itself takes no memory and is never refused
+//!              memory, and then all is as it was; the change itself is never refused
 //! Goes in      pairs, moved
 //! Comes out    changes, lent
 //! Stands on    rdb_base, worm_leaf, meta_trie, leaf_table

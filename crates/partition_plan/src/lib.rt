@@ -8,7 +8,7 @@
 //! Comes out    decisions
 //! Stands on    rdb_base
 //! Begin at     src/planning.rt, `plan`; specs/Compactions.antt
-//! Leaves open  that the sizes are those of real partitions; who carries a decision out has to say so
+//! Leaves open  that the sizes are those of real partitions; who calls `plan` has to say so
 //! Numbers      docs/formats.md, "The compaction plan"
 #![tactic(auto)]
 
