@@ -35,41 +35,60 @@ fn found<'a, L: Ledger>(blank: Blank, run: &'a SortedRun, key: &[u8]) -> Option<
     run.find(key, &mut steps)
 }
 
+/// Whether the run finds this change at a key, or none.
+fn finds(run: &SortedRun, key: &[u8], want: Option<&Change>) -> bool {
+    match (found::<Brand>(Blank::new(1), run, key), want) {
+        (Some(found), Some(want)) => found == want,
+        (found, want) => found.is_none() && want.is_none(),
+    }
+}
+
+/// Whether the run finds a put of this value at a key.
+fn finds_put(alloc: Global, run: &SortedRun, key: &[u8], value: &[u8]) -> Result<bool, Fail> {
+    let want = Change::Put(Value::try_new(alloc, value)?);
+    Ok(finds(run, key, Some(&want)))
+}
+
+/// Whether a run has so many pairs, of this size together.
+fn has(run: &SortedRun, len: usize, size: u128) -> bool {
+    run.len() == len && run.as_slice().len() == len && run.size() == size
+}
+
 #[test]
 fn a_run_finds_its_changes(rt: HostRuntime) -> Result<(), Fail> {
-    let alloc = rt.alloc();
-    let run = run_of(alloc)?;
-    assert_eq!(rt; run.len(), 3);
-    assert_eq!(rt; run.size(), 8 + 8 + 9);
-    assert_eq!(rt; run.as_slice().len(), 3);
-    for (key, want) in [
-        (b"a".as_slice(), None),
-        (b"b", Some(Change::Put(Value::try_new(alloc, b"1")?))),
-        (b"ba", None),
-        (b"bb", Some(Change::Del)),
-        (b"c", Some(Change::Put(Value::try_new(alloc, b"23")?))),
-        (b"d", None),
-    ] {
-        assert_eq!(rt;
-            found::<Brand>(Blank::new(1), &run, key),
-            want.as_ref(),
-            "{key:?}"
-        );
-    }
+    let run = run_of(rt.alloc())?;
+    assert!(rt; has(&run, 3, 8 + 8 + 9));
+    assert!(rt; finds(&run, b"a", None));
+    assert!(rt; finds_put(rt.alloc(), &run, b"b", b"1")?);
+    assert!(rt; finds(&run, b"ba", None));
+    assert!(rt; finds(&run, b"bb", Some(&Change::Del)));
+    assert!(rt; finds_put(rt.alloc(), &run, b"c", b"23")?);
+    assert!(rt; finds(&run, b"d", None));
     Ok(())
+}
+
+/// Whether these are the pairs of a run.
+fn has_pairs(pairs: &[Pair], run: &SortedRun) -> bool {
+    pairs == run.as_slice()
+}
+
+/// A run that is taken apart and made again.
+fn made_again(run: SortedRun, len: usize) -> Result<SortedRun, Fail> {
+    let pairs = run.into_pairs();
+    if pairs.len() != len {
+        return Err("another number of pairs")?;
+    }
+    Ok(SortedRun::of(pairs))
 }
 
 #[test]
 fn a_run_is_copied_and_taken_apart(rt: HostRuntime) -> Result<(), Fail> {
-    let alloc = rt.alloc();
-    let run = run_of(alloc)?;
-    let copy = run.try_copy(alloc)?;
-    assert_eq!(rt; copy.as_slice(), run.as_slice());
-    let pairs = copy.into_pairs();
-    assert_eq!(rt; pairs.len(), 3);
-    let again = SortedRun::of(pairs);
-    assert_eq!(rt; again.size(), run.size());
-    assert_eq!(rt; again.as_slice(), run.as_slice());
+    let run = run_of(rt.alloc())?;
+    let copy = run.try_copy(rt.alloc())?;
+    assert!(rt; has_pairs(copy.as_slice(), &run));
+    let again = made_again(copy, 3)?;
+    assert!(rt; again.size() == run.size());
+    assert!(rt; has_pairs(again.as_slice(), &run));
     Ok(())
 }
 

@@ -8,44 +8,57 @@ use std::marker::Brand;
 use std::sync::ledger::{Blank, Ledger};
 use std::test::Fail;
 
+/// Whether these are the wanted bytes.
+fn is_same(found: &[u8], want: &[u8]) -> bool {
+    found == want
+}
+
+/// Whether so many bytes make a key, which gives them back.
+fn is_key(alloc: Global, len: usize) -> Result<bool, Fail> {
+    let bytes = Vec::from_elem(alloc, 0x6B, len)?;
+    let key = Key::try_new(alloc, &bytes)?;
+    Ok(is_same(key.as_bytes(), &bytes))
+}
+
+/// Whether so many bytes are refused as a key, with their number.
+fn is_bad_key(alloc: Global, len: usize) -> Result<bool, Fail> {
+    let bytes = Vec::from_elem(alloc, 0x6B, len)?;
+    match Key::try_new(alloc, &bytes) {
+        Err(KeyError::BadKey { len: told }) => Ok(told == len),
+        _ => Ok(false),
+    }
+}
+
 #[test]
 fn a_key_has_1_to_1024_bytes(rt: HostRuntime) -> Result<(), Fail> {
-    let alloc = rt.alloc();
-    for (len, want) in [
-        (0, Some(KeyError::BadKey { len: 0 })),
-        (1, None),
-        (1024, None),
-        (1025, Some(KeyError::BadKey { len: 1025 })),
-    ] {
-        let bytes = Vec::from_elem(alloc, 0x6B, len)?;
-        match Key::try_new(alloc, &bytes) {
-            Ok(key) => {
-                assert_eq!(rt; None, want, "at {len}");
-                assert_eq!(rt; key.as_bytes(), bytes.as_slice(), "at {len}");
-            }
-            Err(error) => assert_eq!(rt; Some(error), want, "at {len}"),
-        }
-    }
+    assert!(rt; is_bad_key(rt.alloc(), 0)?);
+    assert!(rt; is_key(rt.alloc(), 1)?);
+    assert!(rt; is_key(rt.alloc(), 1024)?);
+    assert!(rt; is_bad_key(rt.alloc(), 1025)?);
     Ok(())
+}
+
+/// Whether so many bytes make a value, which gives them back.
+fn is_value(alloc: Global, len: usize) -> Result<bool, Fail> {
+    let bytes = Vec::from_elem(alloc, 0x76, len)?;
+    let value = Value::try_new(alloc, &bytes)?;
+    Ok(is_same(value.as_bytes(), &bytes))
+}
+
+/// Whether so many bytes are refused as a value, with their number.
+fn is_bad_value(alloc: Global, len: usize) -> Result<bool, Fail> {
+    let bytes = Vec::from_elem(alloc, 0x76, len)?;
+    match Value::try_new(alloc, &bytes) {
+        Err(ValueError::BadValue { len: told }) => Ok(told == len),
+        _ => Ok(false),
+    }
 }
 
 #[test]
 fn a_value_has_up_to_65535_bytes(rt: HostRuntime) -> Result<(), Fail> {
-    let alloc = rt.alloc();
-    for (len, want) in [
-        (0, None),
-        (65535, None),
-        (65536, Some(ValueError::BadValue { len: 65536 })),
-    ] {
-        let bytes = Vec::from_elem(alloc, 0x76, len)?;
-        match Value::try_new(alloc, &bytes) {
-            Ok(value) => {
-                assert_eq!(rt; None, want, "at {len}");
-                assert_eq!(rt; value.as_bytes(), bytes.as_slice(), "at {len}");
-            }
-            Err(error) => assert_eq!(rt; Some(error), want, "at {len}"),
-        }
-    }
+    assert!(rt; is_value(rt.alloc(), 0)?);
+    assert!(rt; is_value(rt.alloc(), 65535)?);
+    assert!(rt; is_bad_value(rt.alloc(), 65536)?);
     Ok(())
 }
 
@@ -58,29 +71,39 @@ fn order_of<L: Ledger>(blank: Blank, left: &Key, right: &Key) -> Ordering
     left.compare(right, &mut steps)
 }
 
+/// Whether the keys of these bytes have this order.
+fn is_order(alloc: Global, left: &[u8], right: &[u8], want: Ordering) -> Result<bool, Fail> {
+    let left = Key::try_new(alloc, left)?;
+    let right = Key::try_new(alloc, right)?;
+    Ok(order_of::<Brand>(Blank::new(1), &left, &right) == want)
+}
+
+/// Two keys and their order.
+const ORDERS: &[(&[u8], &[u8], Ordering)] = &[
+    (b"a", b"ab", Ordering::Less),
+    (b"b", b"ab", Ordering::Greater),
+    (b"\x7F", b"\x80", Ordering::Less),
+    (b"\xFF", b"\x00\x00", Ordering::Greater),
+    (b"a\x00", b"a", Ordering::Greater),
+    (b"ab", b"ab", Ordering::Equal),
+    (b"12345678", b"123456789", Ordering::Less),
+    (b"\x00234567\xFF", b"\xFF234567\x00", Ordering::Less),
+    (
+        b"12345678901234567890\x80",
+        b"12345678901234567890\x7F",
+        Ordering::Greater,
+    ),
+    (b"1234567812345678", b"1234567812345678", Ordering::Equal),
+];
+
 #[test]
 fn keys_are_ordered_by_unsigned_bytes(rt: HostRuntime) -> Result<(), Fail> {
-    let alloc = rt.alloc();
-    for (left, right, want) in [
-        (b"a".as_slice(), b"ab".as_slice(), Ordering::Less),
-        (b"b", b"ab", Ordering::Greater),
-        (b"\x7F", b"\x80", Ordering::Less),
-        (b"\xFF", b"\x00\x00", Ordering::Greater),
-        (b"a\x00", b"a", Ordering::Greater),
-        (b"ab", b"ab", Ordering::Equal),
-        (b"12345678", b"123456789", Ordering::Less),
-        (b"\x00234567\xFF", b"\xFF234567\x00", Ordering::Less),
-        (
-            b"12345678901234567890\x80",
-            b"12345678901234567890\x7F",
-            Ordering::Greater,
-        ),
-        (b"1234567812345678", b"1234567812345678", Ordering::Equal),
-    ] {
-        let left = Key::try_new(alloc, left)?;
-        let right = Key::try_new(alloc, right)?;
-        let order = order_of::<Brand>(Blank::new(1), &left, &right);
-        assert_eq!(rt; order, want, "{left:?} and {right:?}");
+    for row in ORDERS.iter() {
+        let (left, right, want) = *row;
+        assert!(rt;
+            is_order(rt.alloc(), left, right, want)?,
+            "{left:?} and {right:?}"
+        );
     }
     Ok(())
 }
@@ -91,26 +114,45 @@ fn row_of(alloc: Global) -> Result<Row, Fail> {
     Ok(Row { key, value })
 }
 
+/// Whether a row's copy is equal.
+fn is_row_copied(alloc: Global, row: &Row) -> Result<bool, Fail> {
+    Ok(row.try_copy(alloc)? == *row)
+}
+
+/// Whether a key's copy has these bytes.
+fn is_key_copied(alloc: Global, key: &Key, want: &[u8]) -> Result<bool, Fail> {
+    Ok(is_same(key.try_copy(alloc)?.as_bytes(), want))
+}
+
+/// Whether a value's copy has these bytes.
+fn is_value_copied(alloc: Global, value: &Value, want: &[u8]) -> Result<bool, Fail> {
+    Ok(is_same(value.try_copy(alloc)?.as_bytes(), want))
+}
+
 #[test]
 fn copies_are_equal(rt: HostRuntime) -> Result<(), Fail> {
-    let alloc = rt.alloc();
-    let row = row_of(alloc)?;
-    assert_eq!(rt; row.try_copy(alloc)?, row);
-    assert_eq!(rt;
-        row.key.try_copy(alloc)?.as_bytes(),
-        b"user:00000001".as_slice()
-    );
-    assert_eq!(rt; row.value.try_copy(alloc)?.as_bytes(), b"31".as_slice());
+    let row = row_of(rt.alloc())?;
+    assert!(rt; is_row_copied(rt.alloc(), &row)?);
+    assert!(rt; is_key_copied(rt.alloc(), &row.key, b"user:00000001")?);
+    assert!(rt; is_value_copied(rt.alloc(), &row.value, b"31")?);
     let Row { key, value } = row;
-    for change in [Change::Del, Change::Put(value)] {
-        let entry = Entry {
-            caller: 3,
-            ordinal: 4,
-            key: key.try_copy(alloc)?,
-            change: change.try_copy(alloc)?,
-        };
-        assert_eq!(rt; entry.change, change);
-        assert_eq!(rt; entry.try_copy(alloc)?, entry);
-    }
+    assert!(rt; is_entry_copied(rt.alloc(), &key, &Change::Del)?);
+    assert!(rt; is_entry_copied(rt.alloc(), &key, &Change::Put(value))?);
     Ok(())
+}
+
+/// The entry of a key and a change, which are copied.
+fn entry_of(alloc: Global, key: &Key, change: &Change) -> Result<Entry, Fail> {
+    Ok(Entry {
+        caller: 3,
+        ordinal: 4,
+        key: key.try_copy(alloc)?,
+        change: change.try_copy(alloc)?,
+    })
+}
+
+/// Whether a change's copy is equal, and then that of an entry that has it.
+fn is_entry_copied(alloc: Global, key: &Key, change: &Change) -> Result<bool, Fail> {
+    let entry = entry_of(alloc, key, change)?;
+    Ok(entry.change == *change && entry.try_copy(alloc)? == entry)
 }
