@@ -52,15 +52,21 @@ fn is_above(run: &SortedRun, key: &[u8]) -> bool
     compare_bytes(last.key.as_bytes(), key).is_lt()
 }
 
+/// Adds a row to a run, whose keys are below that of the row.
+pub fn add_row(alloc: Global, run: &mut SortedRun, row: Row<'_>) -> Result<(), Fail> {
+    let pair = pair_of(alloc, row)?;
+    if !is_above(run, pair.key.as_bytes()) {
+        return Err("keys that rise")?;
+    }
+    run.push(pair)?;
+    Ok(())
+}
+
 /// The run of these rows, whose keys rise.
 pub fn run_of(alloc: Global, rows: &[Row<'_>]) -> Result<SortedRun, Fail> {
     let mut run = SortedRun::new(alloc);
     for row in rows.iter() {
-        let pair = pair_of(alloc, *row)?;
-        if !is_above(&run, pair.key.as_bytes()) {
-            return Err("keys that rise")?;
-        }
-        run.push(pair)?;
+        add_row(alloc, &mut run, *row)?;
     }
     Ok(run)
 }
