@@ -28,6 +28,15 @@ pub record InTwoParts {S : Type 0} (strip : Ghosts S) (old new : ManifestState S
 abbrev pub CommitCrashes : {S : Type 0} → Ghosts S → ManifestState S → ManifestState S → EditionValue → Type 0
 CommitCrashes strip old new edition = PairCalls strip 4 (first_strip old) (second_strip old) (first_strip new) (second_strip new) (HasOne old.stands old.newest) ⊎ InTwoParts strip old new edition
 
+-- these surely stand, and are the newest that may stand
+abbrev pub MayStand : {S : Type 0} → EditionValue → EditionValue → ManifestState S → Type 0
+MayStand stands newest manifest = (manifest.stands ≡ stands) × (manifest.newest ≡ newest)
+
+-- What may stand after a commit that failed: what might before, where the edition in doubt was not settled. Else that one
+-- surely stands; and the new one is in doubt, if it was staged.
+abbrev pub IsStopped : {S : Type 0} → ManifestState S → ManifestState S → EditionValue → Type 0
+IsStopped old new edition = MayStand old.stands old.newest new ⊎ MayStand old.newest old.newest new ⊎ MayStand old.newest edition new
+
 -- a fault is one unit of the one book or of the other, drawn in this call
 pub record DrawnFrom (unit book : BookName) (before now : ℕ) (other_before other_now : ℕ) : Type 0 where
   pub unit_of : unit ≡ book

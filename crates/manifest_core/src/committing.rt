@@ -7,7 +7,7 @@ ghost use Rattle.manifest_core.specs.declared.commit_error.CommitError.TheVarian
 ghost use Rattle.manifest_core.specs.Manifests.{HasEdition, HasOne};
 ghost use Rattle.manifest_core.specs.ManifestState.{first_strip, second_strip};
 ghost use Rattle.manifest_core.specs.Pairs.{StandNow, PairCalls};
-ghost use Rattle.manifest_core.specs.Commits.{CommitCrashes, CommitCause, StepCause, CountsStay};
+ghost use Rattle.manifest_core.specs.Commits.{CommitCrashes, IsStopped, CommitCause, StepCause, CountsStay};
 ghost use Rattle.manifest_core.specs.Steps.{is_full, is_full_settled, IsTurn};
 
 use crate::limits::STRIP_FULL;
@@ -36,12 +36,9 @@ impl<S: Strip> Manifest<S> {
         // Unless the current strip is full or not ready, the other one is left alone.
         ensures untouched { is_full_settled self.old.current ≡ false →
             (self.new.other ≡ self.old.other) × (self.new.on_second ≡ self.old.on_second) }
-        // If it fails, the last one stays. One in doubt may have been settled, and this one may be in doubt.
+        // If it fails, the last one stays. This one can be in doubt only once the one that was is settled.
         ensures kept { OnErr result (self.new.last ≡ self.old.last) }
-        ensures stood { OnErr result
-            ((self.new.stands ≡ self.old.stands) ⊎ (self.new.stands ≡ self.old.newest)) }
-        ensures newest { OnErr result
-            ((self.new.newest ≡ self.old.newest) ⊎ (self.new.newest ≡ edition)) }
+        ensures stood { OnErr result (IsStopped self.old self.new edition) }
         // It comes to nothing exactly where no number is left.
         ensures spent { NUMBER_MAX ≤ self.old.last.next →
             (result ≡ Err (NumbersSpent self.old.last.next)) × (self.new ≡ self.old) }
@@ -81,10 +78,7 @@ impl<S: Strip> Manifest<S> {
         ensures untouched { is_full_settled self.old.current ≡ false →
             (self.new.other ≡ self.old.other) × (self.new.on_second ≡ self.old.on_second) }
         ensures last { self.new.last ≡ self.old.last }
-        ensures stood { OnErr result
-            ((self.new.stands ≡ self.old.stands) ⊎ (self.new.stands ≡ self.old.newest)) }
-        ensures newest { OnErr result
-            ((self.new.newest ≡ self.old.newest) ⊎ (self.new.newest ≡ edition.now)) }
+        ensures stood { OnErr result (IsStopped self.old self.new edition.now) }
         ensures cause { IfErr result (StepCause S.Strip (first_strip self.old) (second_strip self.old)
             (first_strip self.new) (second_strip self.new)) }
         ensures counts { OnOk result (CountsStay S.Strip (first_strip self.old) (second_strip self.old)

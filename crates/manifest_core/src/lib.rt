@@ -19,9 +19,12 @@ mod limits;
 mod manifest;
 mod manifest_error;
 mod reading;
+#[cfg(test)]
+mod tests;
 mod told;
 
 pub use commit_error::CommitError;
+pub use edition_code::{Edition, EditionPart, IndexField, RunField};
 pub use limits::STRIP_FULL;
 pub use manifest::Manifest;
 pub use manifest_error::ManifestError;
