@@ -1,16 +1,17 @@
--- What holds of every world that events lead to. To know: `answers-right`, `rights-go`, `runs-more`, `reached-step`, `reached-published`, `reached-leaves`, `reached-rights`.
+-- What holds of every world that events lead to. To know: `answers-right`, `rights-go`, `walks-go_on`, `runs-more`, `reached-step`, `reached-published`, `reached-leaves`, `reached-rights`.
 use Rattle.std.proofs.Common.{◌≡◌, ℕ, ◌+◌, ◌<◌, ◌≤◌, true, false, List, [], ◌∷◌, ◌++◌, length, drop, refl, sym, ap, ◌∙◌, subst, arith}
 use Rattle.std.specs.Prelude.{Option, Some, None}
 use Rattle.std.proofs.lemmas.List.{length-drop}
 use Rattle.rdb_base.specs.Ranges.{NotBelow, in_range}
+use Rattle.rdb_base.specs.Runs.{change_at}
 use Rattle.rdb_base.specs.declared.change.Change.{Change}
 use Rattle.rdb_base.specs.declared.pair.Pair.{Pair}
 use Rattle.rdb_base.proofs.PlaceLemmas.{some_injective}
 use Rattle.rdb_base.proofs.RangeLemmas.{range_to}
 use Rattle.meta_trie.specs.Tries.{Anchored}
 use Rattle.worm_leaf.specs.Leaves.{LeafState, IsLeaf, covers}
-use Rattle.worm_core.specs.Events.{StepsTo, RunsTo, IsReached, entered, moved, Puts, SplitsLeaf, GoesRight}
-use Rattle.worm_core.specs.Promises.{put_by, puts_of, IsRight, AnswersAreRight, RightsGo}
+use Rattle.worm_core.specs.Events.{StepsTo, RunsTo, IsReached, entered, moved, with_walker, Puts, SplitsLeaf, GoesRight}
+use Rattle.worm_core.specs.Promises.{put_by, puts_of, IsRight, AnswersAreRight, RightsGo, GoesOn, WalksGoOn}
 use Rattle.worm_core.specs.Worlds.{World, opening, walker_at, Stands, IsRightOf}
 use Rattle.worm_core.specs.declared.leaf_answer.LeafAnswer.{LeafAnswer}
 use Rattle.worm_core.specs.declared.leaf_answer.LeafAnswer.TheVariants as answers
@@ -113,6 +114,37 @@ goes puts w number walker leaf s on out =
 
 pub rights-go : RightsGo
 rights-go es more w number walker leaf run on out = goes (puts_of [] es) w number walker leaf (sound-run es more [] opening w sound-opening run) on out
+
+goes_on : (puts : List Pair) (w : World) (number : ℕ) (walker : Walker) → Sound puts w → walker_at w.walkers number ≡ Some walker → GoesOn w number walker
+goes_on puts w number walker s is =
+    let k = s.walkers number walker is in
+    let on : Stands w.leaves w.walkers number walker k.leaf = record { is = is; on = k.on } in record {
+      leaf = k.leaf;
+      stands = on;
+      few = few_rights w walker k;
+      ends = let f = few_rights w walker k in omega (arith, s.count, s.most);
+      answers = λ inside. (
+        answers.Found walker.leaf (change_at k.leaf.pairs walker.key) walker.rights,
+        w,
+        (record { walker = walker; leaf = k.leaf; stands = on; inside = inside; told = refl }, refl),
+      );
+      rights = λ out.
+          let n = goes puts w number walker k.leaf s on out in
+          let walkers = with_walker w.walkers number (moved walker n.0) in (
+            answers.At n.0,
+            record w { walkers = walkers },
+            (
+              n.0,
+              walkers,
+              record { walker = walker; leaf = k.leaf; stands = on; outside = out; neighbour = n.1; effect = refl },
+              refl,
+              refl,
+            ),
+          );
+    }
+
+pub walks-go_on : WalksGoOn
+walks-go_on es more w number walker run is = goes_on (puts_of [] es) w number walker (sound-run es more [] opening w sound-opening run) is
 
 -- ---- worlds that are reached
 

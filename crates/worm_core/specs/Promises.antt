@@ -1,15 +1,16 @@
 -- What every world of leaves promises, whatever events led to it.
-use Rattle.std.specs.Prelude.{◌≡◌, ℕ, ◌+◌, ◌≤◌, true, false, List, [], ◌∷◌, length, Option}
+use Rattle.std.specs.Prelude.{◌≡◌, ℕ, ◌+◌, ◌<◌, ◌≤◌, true, false, List, [], ◌∷◌, length, Option, Some}
 use Rattle.rdb_base.specs.Runs.{change_at}
 use Rattle.rdb_base.specs.declared.change.Change.{Change}
 use Rattle.rdb_base.specs.declared.pair.Pair.{Pair}
 use Rattle.worm_leaf.specs.Leaves.{LeafState, covers}
 use Rattle.worm_core.specs.Events.{StepsTo, RunsTo}
-use Rattle.worm_core.specs.Worlds.{World, Stands, IsRightOf, opening}
+use Rattle.worm_core.specs.Worlds.{World, walker_at, Stands, IsRightOf, opening}
 use Rattle.worm_core.specs.declared.leaf_answer.LeafAnswer.{LeafAnswer}
 use Rattle.worm_core.specs.declared.leaf_answer.LeafAnswer.TheVariants as answers
 use Rattle.worm_core.specs.declared.leaf_event.LeafEvent.{LeafEvent}
 use Rattle.worm_core.specs.declared.leaf_event.LeafEvent.TheVariants as events
+use Rattle.worm_core.specs.declared.limits.TheConstants.{LEAVES_MAX}
 use Rattle.worm_core.specs.declared.walker.Walker.{Walker}
 
 -- the pairs that were put, the newest first
@@ -47,3 +48,23 @@ abbrev pub RightsGo : Type 0
 RightsGo = (es : List LeafEvent) (more : List LeafAnswer) (w : World) (number : ℕ) (walker : Walker) (leaf : LeafState)
     → RunsTo opening es more w → Stands w.leaves w.walkers number walker leaf → covers leaf walker.key ≡ false
     → (right : ℕ) × IsRightOf w.leaves leaf right
+
+-- the event has a step from here
+abbrev pub HasStep : World → LeafEvent → Type 0
+HasStep w event = (a : LeafAnswer) × (next : World) × StepsTo w event a next
+
+-- a walker stands on a leaf that there is, and went right no more often than there are splits that its table lacked; where its
+-- leaf covers its key it may answer, and elsewhere it may go right. So its walk goes on, and ends after fewer steps than there
+-- may be leaves
+pub record GoesOn (w : World) (number : ℕ) (walker : Walker) : Type 0 where
+  pub leaf : LeafState
+  pub stands : Stands w.leaves w.walkers number walker leaf
+  pub few : walker.rights + walker.adds ≤ length w.splits
+  pub ends : walker.rights < LEAVES_MAX
+  pub answers : covers leaf walker.key ≡ true → HasStep w (events.Answer number)
+  pub rights : covers leaf walker.key ≡ false → HasStep w (events.Right number)
+
+-- over every list of events from the beginning, this is so of each walker that there is
+abbrev pub WalksGoOn : Type 0
+WalksGoOn = (es : List LeafEvent) (more : List LeafAnswer) (w : World) (number : ℕ) (walker : Walker)
+    → RunsTo opening es more w → walker_at w.walkers number ≡ Some walker → GoesOn w number walker
