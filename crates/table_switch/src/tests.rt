@@ -196,7 +196,7 @@ fn two_readers_enter_at_different_times(rt: HostRuntime) -> Result<(), Fail> {
 #[test]
 fn there_is_a_place_for_each_caller(rt: HostRuntime) -> Result<(), Fail> {
     let alloc = rt.alloc();
-    let (writer, places) = Switch::make(alloc, 65, Waits::new(&rt))?;
+    let (mut writer, places) = Switch::make(alloc, 65, Waits::new(&rt))?;
     assert!(rt; places.iter().all(|place| place.is_some()));
     assert!(rt; writer.reader().is_none());
     drop(places);
@@ -204,6 +204,29 @@ fn there_is_a_place_for_each_caller(rt: HostRuntime) -> Result<(), Fail> {
     let (nobodys, places) = Switch::make(alloc, 0, writer.ender.again())?;
     assert!(rt; places.is_empty());
     assert_eq!(rt; counted(&nobodys, b"a"), (0, false));
+    Ok(())
+}
+
+/// Whether a reader that is made after a publish finds what was published, in the place of one that is gone.
+fn late_reader_finds<R: Wait>(rt: &R, alloc: Global) -> Option<bool> {
+    let (mut writer, mut places) = Switch::make(alloc, 1, Waits::new(rt)).ok()?;
+    let mut early = next_reader(&mut places)?;
+    let appended = append(alloc, &mut writer, b"m", 1)?.is_ok();
+    let published = writer.publish(rt).is_ok();
+    let found = enter(rt, alloc, &mut early, b"z")? == (1, 1);
+    let front = early.front();
+    drop(early);
+    let mut late = writer.reader()?;
+    front.again().agree(&front);
+    let again = enter(rt, alloc, &mut late, b"z")? == (1, 1);
+    drop(writer.front());
+    Some(appended && published && found && again)
+}
+
+#[test]
+fn a_reader_that_comes_late_begins_where_others_are(rt: HostRuntime) -> Result<(), Fail> {
+    let alloc = rt.alloc();
+    assert!(rt; late_reader_finds(&rt, alloc) == Some(true));
     Ok(())
 }
 
@@ -291,7 +314,8 @@ fn counted_late_read<L: Ledger, R: Wait>(
     entered.store(1, Ordering::SeqCst);
     wait_for(rt, published);
     let trail = reading.get().trail(key, &mut steps);
-    let reader = TrieReader::at(reading.leave());
+    let front = reading.get().front();
+    let reader = TrieReader::at(reading.leave(), front);
     Some((reader, trail.start, trail.adds))
 }
 

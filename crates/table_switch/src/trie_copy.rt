@@ -2,7 +2,8 @@ ghost use Rattle.std.specs.Prelude.{◌≡◌, ◌≤◌, ◌<◌, ◌+◌, ◌^
 ghost use Rattle.rdb_base.specs.Halvings.{IsLogarithmic};
 ghost use Rattle.meta_trie.specs.Tries.{cover};
 
-use crate::appended::Appended;
+use crate::front::Front;
+use crate::told::Told;
 use crate::trail::Trail;
 use left_right::Absorb;
 use meta_trie::MetaTrie;
@@ -11,36 +12,44 @@ use std::alloc::{AllocError, Global};
 use std::marker::Model;
 use std::sync::ledger::Ledger;
 
-/// One of the two copies of the trie. Contracts see it as the anchors that were added, in the order of adding.
+/// One of the two copies of the trie. Contracts see the anchors that were added, in the order of adding, and the front
+/// that came with the last one.
 #[derive(Drop)]
 pub struct TrieCopy {
     trie: MetaTrie,
+    front: Front,
     /// An operation comes without an allocator.
     alloc: Global,
 }
 
 impl Model for TrieCopy {
-    ghost use Rattle.std.specs.Prelude.{List};
-    ghost use Rattle.meta_trie.specs.Tries.{Anchored};
+    ghost use Rattle.table_switch.specs.Published.{CopyState};
 
-    ghost Value = { List Anchored };
+    ghost Value = { CopyState };
 
-    ghost view = { λ copy. copy.trie.added };
+    ghost view = { λ copy. record { added = copy.trie.added; front = copy.front } };
 }
 
 impl TrieCopy {
     /// The trie of the empty anchor.
-    pub(crate) fn make(alloc: Global) -> Result<TrieCopy, NoMemory>
-        ensures { IfOk result (λ copy. copy ≡ []) }
+    pub(crate) fn make(alloc: Global, front: Front) -> Result<TrieCopy, NoMemory>
+        ensures { IfOk result (λ copy. copy ≡ record { added = []; front = front }) }
     {
         let trie = MetaTrie::make(alloc)?;
-        Ok(TrieCopy { trie, alloc })
+        Ok(TrieCopy { trie, front, alloc })
+    }
+
+    /// The anchors that it has, once it is published.
+    pub(crate) fn front(&self) -> Front
+        ensures { result ≡ self.now.front }
+    {
+        self.front.again()
     }
 
     /// The leaf of a key, and how many anchors were added. Each node that is read is one step.
     pub(crate) fn trail<L: Ledger>(&self, key: &[u8], steps: &mut Steps<L>) -> Trail
-        ensures start { result.start ≡ cover self.now key.now }
-        ensures adds { result.adds ≡ length self.now }
+        ensures start { result.start ≡ cover self.now.added key.now }
+        ensures adds { result.adds ≡ length self.now.added }
         ensures counted { steps.old < steps.new }
         ensures cost { IsLogarithmic (length key.now) (steps.old + 2) steps.new }
     {
@@ -50,20 +59,25 @@ impl TrieCopy {
     }
 }
 
-impl Absorb<Appended> for TrieCopy {
-    ghost use Rattle.std.specs.Prelude.{◌++◌, ◌∷◌, []};
+impl Absorb<Told> for TrieCopy {
+    ghost use Rattle.table_switch.specs.Published.{with_told};
 
-    // A clause reads an array as a list, of any length.
-    type State = [Appended; 0];
+    type State = TrieCopy;
 
     ghost state = { λ copy. copy };
 
-    ghost applied = { λ anchors appended. anchors ++ appended ∷ [] };
+    ghost applied = { λ copy told. with_told copy told };
 
-    fn absorb_first(&mut self, operation: &Appended, _other: &TrieCopy) -> Result<(), AllocError> {
-        let anchor = operation.anchor.as_slice();
-        match self.trie.add_if_new(self.alloc, anchor, operation.leaf) {
-            Ok(true) => Ok(()),
+    fn absorb_first(&mut self, operation: &Told, _other: &TrieCopy) -> Result<(), AllocError> {
+        let anchor = operation.appended.anchor.as_slice();
+        match self
+            .trie
+            .add_if_new(self.alloc, anchor, operation.appended.leaf)
+        {
+            Ok(true) => {
+                self.front = operation.front.again();
+                Ok(())
+            }
             // The writer's own trie took the anchor before, so it is new here, and its nodes fit.
             Ok(false) => Err(AllocError),
             Err(_) => Err(AllocError),

@@ -1,10 +1,11 @@
-ghost use Rattle.std.specs.Prelude.{◌≡◌, ◌≤◌, ◌<◌, ◌+◌, ◌^◌, ℕ, length, IfSome, IfNone};
+ghost use Rattle.std.specs.Prelude.{◌≡◌, ◌≤◌, ◌<◌, ◌+◌, ◌^◌, ℕ, Some, length, IfSome, IfNone};
 ghost use Rattle.left_right.specs.Sides.{view};
 ghost use mathlib.Core.List.{IsPrefix};
 ghost use Rattle.rdb_base.specs.Halvings.{IsLogarithmic};
 ghost use Rattle.meta_trie.specs.Tries.{cover};
 
-use crate::publishing::{Looks, Rises, Seen};
+use crate::front::Front;
+use crate::publishing::{Known, Looks, Rises};
 use crate::trail::Trail;
 use crate::trie_copy::TrieCopy;
 use left_right::reader::Reader;
@@ -14,10 +15,10 @@ use std::sync::Wait;
 use std::sync::ledger::Ledger;
 
 /// A reader of the two copies that is not reading.
-pub(crate) type RawReader = Reader<TrieCopy, Seen, Rises>;
+pub(crate) type RawReader = Reader<TrieCopy, Known, Rises>;
 
-/// One caller's place at the published trie. Contracts see it as the anchors that it has seen: a front of those that
-/// are published.
+/// One caller's place at the published trie. Contracts see its switch and the anchors that it has seen: a front of
+/// those that are published there.
 ///
 /// # Threads
 ///
@@ -28,41 +29,54 @@ pub(crate) type RawReader = Reader<TrieCopy, Seen, Rises>;
 pub struct TrieReader {
     /// It is there between two calls. An entry takes it out, and puts it back.
     place: Option<RawReader>,
+    front: Front,
 }
 
 impl Model for TrieReader {
-    ghost use Rattle.std.specs.Prelude.{◌≡◌, [], List, true, is_some};
+    ghost use Rattle.std.specs.Prelude.{◌≡◌, Some, None};
     ghost use Rattle.std.specs.Option.{option_map_or};
-    ghost use Rattle.meta_trie.specs.Tries.{Anchored};
+    ghost use Rattle.table_switch.specs.Published.{FrontState};
 
-    ghost Value = { List Anchored };
+    ghost Value = { FrontState };
 
-    ghost view = { λ r. option_map_or (λ place. place.place.me.0.client) r.place [] };
+    ghost view = { λ r. r.front };
 
-    ghost invariant = { λ r. is_some r.place ≡ true };
+    ghost invariant = { λ r. option_map_or (λ place. place.place.me.0.client) r.place None ≡ Some r.front };
 }
 
 impl TrieReader {
-    /// A reader that has seen what its place has.
-    pub(crate) fn at(place: RawReader) -> TrieReader
-        ensures { result ≡ view place.place }
+    /// A reader at a place that knows this front.
+    pub(crate) fn at(place: RawReader, front: Front) -> TrieReader
+        requires known { view place.place ≡ Some front }
+        ensures { result ≡ front }
     {
-        TrieReader { place: Some(place) }
+        TrieReader {
+            place: Some(place),
+            front,
+        }
     }
 
     /// Its place at the two copies.
     #[cfg(test)]
     pub(crate) fn into_place(self) -> RawReader {
-        let TrieReader { place } = self;
+        let TrieReader { place, front: _ } = self;
         place.unwrap()
+    }
+
+    /// The anchors that it has seen.
+    pub fn front(&self) -> Front
+        ensures { result ≡ self.now }
+    {
+        self.front.again()
     }
 
     /// The leaf of a key by the anchors that are published, and how many they are. The reader has seen these anchors
     /// then. It has left the trie when this returns. After the writer's end there is no trie, and it waits for ever.
     pub fn enter<R: Wait, L: Ledger>(&mut self, rt: &R, key: &Key, steps: &mut Steps<L>) -> Trail
-        ensures forward { IsPrefix self.old self.new }
-        ensures start { result.start ≡ cover self.new key.now }
-        ensures adds { result.adds ≡ length self.new }
+        ensures switch { self.new.switch ≡ self.old.switch }
+        ensures forward { IsPrefix self.old.anchors self.new.anchors }
+        ensures start { result.start ≡ cover self.new.anchors key.now }
+        ensures adds { result.adds ≡ length self.new.anchors }
         ensures counted { steps.old < steps.new }
         ensures cost { IsLogarithmic (length key.now) (steps.old + 2) steps.new }
     {
@@ -77,38 +91,45 @@ impl TrieReader {
 
     /// Enters once. `None` where there is no trie.
     fn try_enter<L: Ledger>(&mut self, key: &[u8], steps: &mut Steps<L>) -> Option<Trail>
-        ensures forward { IsPrefix self.old self.new }
-        ensures start { IfSome result (λ trail. trail.start ≡ cover self.new key.now) }
-        ensures adds { IfSome result (λ trail. trail.adds ≡ length self.new) }
+        ensures switch { self.new.switch ≡ self.old.switch }
+        ensures forward { IsPrefix self.old.anchors self.new.anchors }
+        ensures start { IfSome result (λ trail. trail.start ≡ cover self.new.anchors key.now) }
+        ensures adds { IfSome result (λ trail. trail.adds ≡ length self.new.anchors) }
         ensures counted { IfSome result (λ _. steps.old < steps.new) }
         ensures cost { IfSome result (λ _. IsLogarithmic (length key.now) (steps.old + 2) steps.new) }
         ensures none { IfNone result (steps.new ≡ steps.old) }
     {
         let place = self.place.take().unwrap();
-        let (place, trail) = enter_once(place, key, steps);
+        let (place, front, trail) = enter_once(place, &self.front, key, steps);
         self.place = Some(place);
+        self.front = front;
         trail
     }
 }
 
-/// Enters once, and leaves.
+/// Enters once, and leaves. The front is what the place knows; so is the one that comes back.
 fn enter_once<L: Ledger>(
     place: RawReader,
+    front: &Front,
     key: &[u8],
     steps: &mut Steps<L>,
-) -> (RawReader, Option<Trail>)
-    ensures forward { IsPrefix (view place.place) (view result.0.place) }
-    ensures start { IfSome result.1 (λ trail. trail.start ≡ cover (view result.0.place) key.now) }
-    ensures adds { IfSome result.1 (λ trail. trail.adds ≡ length (view result.0.place)) }
-    ensures counted { IfSome result.1 (λ _. steps.old < steps.new) }
-    ensures cost { IfSome result.1 (λ _. IsLogarithmic (length key.now) (steps.old + 2) steps.new) }
-    ensures none { IfNone result.1 (steps.new ≡ steps.old) }
+) -> (RawReader, Front, Option<Trail>)
+    requires known { view place.place ≡ Some front.now }
+    ensures known { view result.0.place ≡ Some result.1 }
+    ensures switch { result.1.switch ≡ front.now.switch }
+    ensures forward { IsPrefix front.now.anchors result.1.anchors }
+    ensures start { IfSome result.2 (λ trail. trail.start ≡ cover result.1.anchors key.now) }
+    ensures adds { IfSome result.2 (λ trail. trail.adds ≡ length result.1.anchors) }
+    ensures counted { IfSome result.2 (λ _. steps.old < steps.new) }
+    ensures cost { IfSome result.2 (λ _. IsLogarithmic (length key.now) (steps.old + 2) steps.new) }
+    ensures none { IfNone result.2 (steps.new ≡ steps.old) }
 {
     match place.enter_as::<Looks>() {
         Ok(reading) => {
             let trail = reading.get().trail(key, steps);
-            (reading.leave(), Some(trail))
+            let front = reading.get().front();
+            (reading.leave(), front, Some(trail))
         }
-        Err(place) => (place, None),
+        Err(place) => (place, front.again(), None),
     }
 }

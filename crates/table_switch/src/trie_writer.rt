@@ -1,14 +1,17 @@
 ghost use Rattle.std.specs.Prelude.{◌≡◌, ◌≤◌, ◌<◌, ◌+◌, ◌^◌, ◌++◌, ◌∷◌, [], ℕ, true, false};
-ghost use Rattle.std.specs.Prelude.{length, drop, OnOk, OnErr, IfSome};
+ghost use Rattle.std.specs.Prelude.{length, OnOk, OnErr, IfSome};
 ghost use Rattle.rdb_base.specs.Halvings.{IsLogarithmic};
 ghost use Rattle.meta_trie.specs.Tries.{cover, IsNew, IsThere, RoomAnswer};
-ghost use Rattle.table_switch.specs.Published.{all_appended};
+ghost use Rattle.table_switch.specs.Published.{all_appended, front_of};
 
 use crate::appended::Appended;
 use crate::ends::{Ends, RawWriter};
-use crate::publishing::Looks;
+use crate::front::Front;
+use crate::publishing::{Takes, Tells};
+use crate::raw_publishing::{publish_all, send};
+use crate::roll::Roll;
+use crate::told::Told;
 use crate::trie_reader::TrieReader;
-use core::mem::replace_with;
 use meta_trie::{MetaTrie, TrieError};
 use rdb_base::{NoMemory, Steps};
 use std::alloc::Global;
@@ -17,8 +20,8 @@ use std::sync::Wait;
 use std::sync::ledger::Ledger;
 use worm_leaf::Anchor;
 
-/// The one writer of a published trie. Contracts see the anchors that are published, and those that it has appended
-/// since.
+/// The one writer of a published trie. Contracts see its switch, the anchors that are published, and those that it has
+/// appended since.
 ///
 /// # Threads
 ///
@@ -29,22 +32,29 @@ pub struct TrieWriter<E: Ends> {
     /// A trie of all appended anchors, which no reader reads. An anchor goes into it first, so that it is refused before
     /// the two copies know of it.
     pub(crate) appended: MetaTrie,
+    /// All appended anchors, as readers can show that they have seen some of them.
+    pub(crate) roll: Roll,
+    /// The last appended anchor, of which the two copies were not told yet. To tell them may want memory, and an anchor
+    /// on the roll cannot be taken back.
+    pub(crate) waiting: Option<Told>,
     pub(crate) ender: E,
 }
 
 impl<E: Ends> Model for TrieWriter<E> {
-    ghost use Rattle.std.specs.Prelude.{◌≡◌, ◌++◌, drop};
-    ghost use Rattle.table_switch.specs.Published.{WriterState};
+    ghost use Rattle.std.specs.Prelude.{drop};
+    ghost use Rattle.left_right.specs.Sides.{view as known_at};
+    ghost use Rattle.table_switch.specs.Published.{WriterState, IsWriter, anchors_of, pending_of};
 
     ghost Value = { WriterState };
 
     ghost view = { λ w. record {
-      published = w.writer.desk.shown.value;
-      pending = drop w.writer.behind w.writer.log.items;
+      switch = w.roll.switch;
+      published = w.writer.desk.shown.value.added;
+      pending = anchors_of (pending_of (drop w.writer.behind w.writer.log.items) w.waiting);
     } };
 
-    ghost invariant = { λ w.
-        w.appended.added ≡ w.writer.desk.shown.value ++ drop w.writer.behind w.writer.log.items };
+    ghost invariant = { λ w. IsWriter w.appended.added w.roll w.writer.desk.shown.value
+        (known_at w.writer.desk.place) (pending_of (drop w.writer.behind w.writer.log.items) w.waiting) };
 }
 
 impl<E: Ends> Drop for TrieWriter<E> {
@@ -52,6 +62,8 @@ impl<E: Ends> Drop for TrieWriter<E> {
         let Self {
             writer,
             appended: _,
+            roll: _,
+            waiting: _,
             ender,
         } = self;
         ender.end(writer);
@@ -59,12 +71,22 @@ impl<E: Ends> Drop for TrieWriter<E> {
 }
 
 impl<E: Ends> TrieWriter<E> {
-    /// A reader, where there is a place left.
-    pub(crate) fn reader(&self) -> Option<TrieReader>
-        ensures { IfSome result (λ reader. reader ≡ []) }
+    /// A reader that has seen all that is published, where there is a place left.
+    pub fn reader(&mut self) -> Option<TrieReader>
+        ensures seen { IfSome result (λ reader.
+            reader ≡ record { switch = self.old.switch; anchors = self.old.published }) }
+        ensures same { self.new ≡ self.old }
     {
-        let place = self.writer.factory().reader().ok()?;
-        Some(TrieReader::at(place))
+        let mut place = self.writer.factory().reader().ok()?;
+        place.learn::<Takes>(self.writer.tell::<Tells>());
+        Some(TrieReader::at(place, self.writer.published().front()))
+    }
+
+    /// All anchors that were appended on this switch so far.
+    pub fn front(&self) -> Front
+        ensures { result ≡ front_of self.now }
+    {
+        self.roll.front()
     }
 
     /// The leaf that all appended anchors give for a key, those that are not published among them.
@@ -98,6 +120,7 @@ impl<E: Ends> TrieWriter<E> {
         requires new { IsNew (all_appended self.old) anchor.now }
         requires after { after ≡ cover (all_appended self.old) anchor.now }
         ensures answer { RoomAnswer result (all_appended self.old) anchor.now }
+        ensures switch { self.new.switch ≡ self.old.switch }
         ensures published { self.new.published ≡ self.old.published }
         ensures appended { OnOk result (self.new.pending
             ≡ self.old.pending ++ record { anchor = anchor.now; leaf = leaf } ∷ []) }
@@ -106,10 +129,12 @@ impl<E: Ends> TrieWriter<E> {
         let anchor = anchor.as_bytes();
         self.appended.reserve(alloc, anchor)?;
         let appended = Appended::copied(alloc, anchor, leaf)?;
-        if self.writer.append(appended).is_err() {
+        send(&mut self.writer, &mut self.waiting)?;
+        let Some(front) = self.roll.extend(&appended) else {
             return Err(TrieError::Memory);
-        }
+        };
         // From here on nothing is refused.
+        self.waiting = Some(Told { appended, front });
         self.appended.add(alloc, anchor, leaf, after).unwrap();
         Ok(())
     }
@@ -117,23 +142,12 @@ impl<E: Ends> TrieWriter<E> {
     /// Publishes all appended anchors at once. It waits for the readers that are inside the copy that it changes. Out of
     /// memory, nothing is published; the anchors stay appended, and the next publish has them.
     pub fn publish<R: Wait>(&mut self, rt: &R) -> Result<(), NoMemory>
+        ensures switch { self.new.switch ≡ self.old.switch }
         ensures published { OnOk result (self.new.published ≡ all_appended self.old) }
         ensures pending { OnOk result (self.new.pending ≡ []) }
         ensures refused { OnErr result (self.new.published ≡ self.old.published) }
         ensures kept { OnErr result (self.new.pending ≡ self.old.pending) }
     {
-        replace_with(&mut self.writer, rt, |writer, rt| publish_once(rt, writer))
+        publish_all(rt, &mut self.writer, &mut self.waiting)
     }
-}
-
-/// Publishes, and gives the writer back.
-fn publish_once<R: Wait>(rt: &R, writer: RawWriter) -> (RawWriter, Result<(), NoMemory>)
-    ensures published { OnOk result.1 (result.0.desk.shown.value
-        ≡ writer.desk.shown.value ++ drop writer.behind writer.log.items) }
-    ensures pending { OnOk result.1 (drop result.0.behind result.0.log.items ≡ []) }
-    ensures refused { OnErr result.1 (result.0.desk.shown.value ≡ writer.desk.shown.value) }
-    ensures kept { OnErr result.1 (drop result.0.behind result.0.log.items
-        ≡ drop writer.behind writer.log.items) }
-{
-    writer.publish_as::<Looks, R>(rt)
 }

@@ -1,6 +1,5 @@
-use Rattle.rdb_base.proofs.PrefixLemmas.{prefix_self}
-use Rattle.table_switch.proofs.RisingLemmas.{keeps-step}
+use Rattle.table_switch.proofs.RisingLemmas.{keeps-step, self-next}
 use Rattle.table_switch.proofs.trie_reader.enter_once.Goals as goal
 
 pub enter_as-requires : goal.enter_as-requires
-enter_as-requires g c published views kept at = keeps-step c.args.place.place.id _ published published views (prefix_self published) kept at
+enter_as-requires g c published views kept at = keeps-step c.args.place.place.id _ published published views (self-next published kept.0) kept at
