@@ -1,0 +1,10 @@
+pub mod Editions
+pub mod Levels
+pub mod Worlds
+pub mod Steps
+pub mod Laws
+pub mod EditionLaws
+pub mod SettledLaws
+pub mod ShelfLaws
+pub mod SegmentLaws
+pub mod Claims
