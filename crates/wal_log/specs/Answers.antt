@@ -1,5 +1,5 @@
 -- What reading a log answers.
-use Rattle.std.specs.Prelude.{◌≡◌, ℕ, ◌%◌, List, Result, Ok, Err}
+use Rattle.std.specs.Prelude.{◌≡◌, ℕ, List, Result, Ok, Err}
 use Rattle.disk_model.specs.Books.{BookName}
 use Rattle.fault_count.specs.Counts.{RoseByOne}
 use Rattle.disk_model.specs.declared.strip.Strip.{Ghosts}

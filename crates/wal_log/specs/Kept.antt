@@ -1,5 +1,5 @@
 -- What a segment keeps of its journal.
-use Rattle.std.specs.Prelude.{◌≡◌, ◌⊎◌, ℕ, ◌+◌, ◌<◌, ◌≤◌, ◌^◌, Bool, true, false, List, [], ◌++◌, length, drop, Ok}
+use Rattle.std.specs.Prelude.{◌≡◌, ◌⊎◌, ℕ, ◌+◌, ◌<◌, ◌≤◌, Bool, true, false, List, [], ◌++◌, length, drop, Ok}
 use Rattle.rdb_base.specs.declared.entry.Entry.{Entry}
 use Rattle.disk_model.specs.declared.strip.Strip.{Ghosts}
 use Rattle.disk_model.specs.Calls.{IfTold}

@@ -4,3 +4,8 @@ pub mod SegmentState
 pub mod Kept
 pub mod Answers
 pub mod Calls
+pub mod LogValues
+pub mod Segments
+pub mod Strips
+pub mod RawLogState
+pub mod Openings

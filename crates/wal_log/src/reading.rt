@@ -14,7 +14,7 @@ use std::alloc::Global;
 
 /// The header that a frame is.
 #[tactic(auto, unfolding(crate::specs::Logs::header_in))]
-fn header_of(strip: u8, frame: &Frame) -> Result<(u64, u64), LogError>
+pub(crate) fn header_of(strip: u8, frame: &Frame) -> Result<(u64, u64), LogError>
     ensures exact { GivesLog (λ x. record { segment = x.0; first = x.1 }) result (header_in strip frame.now) }
     ensures within { IfOk result (λ x. x.1 ≤ NUMBER_MAX) }
 {
@@ -55,7 +55,7 @@ fn entries_of_frame(alloc: Global, strip: u8, frame: &Frame) -> Result<(u64, Vec
 }
 
 /// The first frame, and those after it.
-fn split(frames: &[Frame]) -> Option<(&Frame, &[Frame])>
+pub(crate) fn split(frames: &[Frame]) -> Option<(&Frame, &[Frame])>
     ensures some { IfSome result (λ x. frames.now ≡ x.0.now ∷ x.1.now) }
     ensures none { result ≡ None → frames.now ≡ [] }
 {
@@ -66,7 +66,7 @@ fn split(frames: &[Frame]) -> Option<(&Frame, &[Frame])>
 }
 
 /// The entries of these frames, of which the first is to have this number.
-fn entries_after(
+pub(crate) fn entries_after(
     alloc: Global,
     strip: u8,
     from: u64,

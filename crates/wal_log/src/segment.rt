@@ -202,7 +202,7 @@ impl<S: Strip> Segment<S> {
 }
 
 /// Why a journal is not opened, as a log says it.
-fn told_of(number: u64, error: JournalError) -> LogError
+pub(crate) fn told_of(number: u64, error: JournalError) -> LogError
     ensures { LogErrorOf number error result }
 {
     match error {

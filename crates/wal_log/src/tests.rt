@@ -1,4 +1,6 @@
 //! The bytes of a segment, written out by hand; each device call failing alone; and each refusal of an opening.
+mod several;
+
 use crate::{LogError, PENDING_MAX, Segment};
 use disk_model::{DeviceError, MemoryStrip};
 use rdb_base::{Change, Entry, Key, NUMBER_MAX, Value};

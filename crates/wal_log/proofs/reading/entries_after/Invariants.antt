@@ -1,4 +1,4 @@
-use Rattle.std.proofs.Common.{◌+◌, ◌^◌, ◌≤◌, ◌≡◌, length}
+use Rattle.std.proofs.Common.{◌+◌, ◌≤◌, ◌≡◌, length}
 use Rattle.rdb_base.specs.declared.limits.TheConstants.{NUMBER_MAX}
 use Rattle.wal_log.specs.Logs.{joined, entries_in}
 use Rattle.wal_log.proofs.reading.entries_after.Given as goal

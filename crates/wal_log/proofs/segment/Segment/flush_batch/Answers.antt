@@ -1,4 +1,3 @@
-use Rattle.std.proofs.Common.{length, sym, subst}
 use Rattle.wal_log.proofs.KeptLemmas.{calls-none, calls-same}
 use Rattle.wal_log.proofs.segment.Segment.flush_batch.Goals as goal
 

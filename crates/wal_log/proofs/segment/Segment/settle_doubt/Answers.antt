@@ -1,4 +1,3 @@
-use Rattle.std.proofs.Common.{length}
 use Rattle.wal_log.proofs.KeptLemmas.{calls-none}
 use Rattle.wal_log.proofs.segment.Segment.settle_doubt.Goals as goal
 
