@@ -1,6 +1,6 @@
--- What a call finds and leaves, by the leaf that covers its key. To know: `covers-cover`, `found`, `room-at`, `pairs-put`, `lows-put`.
+-- What a call finds and leaves, by the leaf that covers its key. To know: `covers-cover`, `cover-covers`, `found`, `room-at`, `pairs-put`, `lows-put`.
 use Rattle.std.proofs.Common.{◌≡◌, ◌≢◌, ℕ, suc, ◌+◌, ◌*◌, ◌<◌, ◌≤◌, Bool, true, false, cond, List, [], ◌∷◌, ◌++◌, length, get_or, set, refl, sym, ap, ◌∙◌, subst, arith, inl, inr}
-use Rattle.std.specs.Prelude.{Option, Some, None, is_some, if◌then◌else◌, ◌==◌}
+use Rattle.std.specs.Prelude.{Option, Some, None, is_some, if◌then◌else◌, ◌==◌, slice_get}
 use Rattle.std.specs.List.{AllByRecursion}
 use Rattle.std.specs.Ordering.{is_eq}
 use Rattle.std.specs.declared.cmp.Ordering.{Ordering}
@@ -28,7 +28,7 @@ use Rattle.leaf_table.specs.Chains.{pairs_of, lows_of, HasRoom, HasRoomAt, IsCha
 use Rattle.leaf_table.specs.Tables.{leaf_at, chain_of, IsTable, Around, Covers, IsOnce}
 use Rattle.leaf_table.proofs.ChainLemmas.{IsRun-chain, lows-rise}
 use Rattle.leaf_table.proofs.PairLemmas.{pairs_of-append, change_at-between, with_pair-between}
-use Rattle.leaf_table.proofs.AnchorLemmas.{around-any, cover-around, number-within}
+use Rattle.leaf_table.proofs.AnchorLemmas.{around-any, cover-around, number-within, one-of}
 use Rattle.leaf_table.proofs.TableLemmas.{chain-around, chain-with, table-with}
 
 -- a leaf that was read is the leaf with that number
@@ -41,6 +41,20 @@ covers-cover leaves order added t key n e =
     let r : Around (leaf_at leaves) order key = around-any leaves order key t.parts in
     let same : n ≡ r.number = e ∙ cover-around leaves order added t key r in
     (r, same, subst (λ m. m < length leaves) (sym same) (number-within leaves order added t key r))
+
+-- a leaf that covers the key is the one that the trie gives
+pub cover-covers : (leaves : List LeafState) (order : List ℕ) (added : List Anchored) → IsTable leaves order added → (key : List ℕ) (n : ℕ) → n < length leaves → covers (leaf_at leaves n) key ≡ true → n ≡ cover added key
+cover-covers leaves order added t key n lt c =
+    let r : Around (leaf_at leaves) order key = around-any leaves order key t.parts in
+    let p = t.there n lt in
+    elim (one-of (λ (m : ℕ). covers (leaf_at leaves m) key ≡ false) (λ (m : ℕ). key_cmp key (leaf_at leaves m).low ≡ Less) r.before r.number r.after p.0 n r.not_before r.lows_after (subst (λ xs. slice_get xs p.0 ≡ Some n) r.order_is p.1)) [
+      | inl not ↦ absurd (apart (sym c ∙ not))
+      | inr (inl same) ↦ same ∙ sym (cover-around leaves order added t key r)
+      | inr (inr above) ↦ absurd ((range_from (leaf_at leaves n).low (leaf_at leaves n).high key c).0 above)
+    ]
+  where
+    apart : true ≡ false → ⊥
+    apart e = absurd cc
 
 -- how many pairs there are with one more in its place
 pub length-with_pair : (p : Pair) (pairs : List Pair) → IsRun pairs → length (with_pair pairs p) ≡ (if is_some (change_at pairs p.key) then length pairs else length pairs + 1)

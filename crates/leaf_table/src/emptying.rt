@@ -25,6 +25,7 @@ impl LeafTable {
         set_aside(&mut self.leaves, &mut self.spare);
         self.order.truncate(1);
         self.order[0] = 0;
+        self.recent = 0;
         self.count = 0;
         self.trie = trie;
     }

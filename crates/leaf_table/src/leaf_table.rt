@@ -4,8 +4,9 @@ ghost use Rattle.rdb_base.specs.Halvings.{IsLogarithmic};
 ghost use Rattle.rdb_base.specs.Levels.{with_pair};
 ghost use Rattle.rdb_base.specs.Runs.{IsRun, change_at};
 ghost use Rattle.worm_leaf.specs.Leaves.{unused};
-ghost use Rattle.leaf_table.specs.Chains.{pairs_of, lows_of, HasRoomAt};
+ghost use Rattle.leaf_table.specs.Chains.{pairs_of, lows_of, HasRoom, HasRoomAt};
 
+use crate::finding::number_of;
 use crate::limits::LEAVES_MAX;
 use meta_trie::MetaTrie;
 use rdb_base::{Change, Key, NoMemory, Pair, Steps};
@@ -22,6 +23,8 @@ pub struct LeafTable {
     /// The numbers of the leaves, by rising ranges.
     pub(crate) order: Vec<u32>,
     pub(crate) trie: MetaTrie,
+    /// The number of the leaf of the last change. It is looked at before the trie.
+    pub(crate) recent: u32,
     /// How many pairs there are.
     pub(crate) count: usize,
     /// Leaves that were used once and are to be used again.
@@ -31,7 +34,7 @@ pub struct LeafTable {
 }
 
 impl Model for LeafTable {
-    ghost use Rattle.std.specs.Prelude.{◌≡◌, List, length};
+    ghost use Rattle.std.specs.Prelude.{◌≡◌, ◌<◌, List, length};
     ghost use Rattle.worm_leaf.specs.Leaves.{LeafState};
     ghost use Rattle.leaf_table.specs.Chains.{pairs_of};
     ghost use Rattle.leaf_table.specs.Tables.{chain_of, IsTable, HasRooms};
@@ -42,7 +45,8 @@ impl Model for LeafTable {
 
     ghost invariant = { λ t. IsTable t.leaves.items t.order.items t.trie.added
         × (t.count ≡ length (pairs_of (chain_of t.leaves.items t.order.items)))
-        × HasRooms t.leaves t.order t.spare };
+        × HasRooms t.leaves t.order t.spare
+        × (t.recent < length t.leaves.items) };
 }
 
 impl LeafTable {
@@ -59,6 +63,7 @@ impl LeafTable {
             leaves,
             order,
             trie: MetaTrie::make(alloc)?,
+            recent: 0,
             count: 0,
             spare: Vec::with_capacity(alloc, LEAVES_MAX)?,
             anchor: Anchor::make(alloc)?,
@@ -88,23 +93,25 @@ impl LeafTable {
         self.leaves.len()
     }
 
-    /// The change at a key, where one was set. It reads as many nodes as the trie does.
+    /// The change at a key, where one was set. It looks at the leaf of the last change, and reads as many nodes as the
+    /// trie does where that is another one.
     pub fn find<L: Ledger>(&self, key: &Key, steps: &mut Steps<L>) -> Option<&Change>
         ensures change { option_copied result ≡ change_at (pairs_of self.now) key.now }
-        ensures cost { IsLogarithmic (length key.now) (steps.old + 2) steps.new }
+        ensures cost { IsLogarithmic (length key.now) (steps.old + 3) steps.new }
     {
-        let number = self.trie.find(key.as_bytes(), steps);
+        let number = number_of(self.leaves.as_slice(), &self.trie, self.recent, key, steps);
         self.leaves[number as usize].find(key)
     }
 
-    /// Whether a change at this key can be set without a split.
-    pub fn has_room<L: Ledger>(&self, key: &Key, steps: &mut Steps<L>) -> bool
-        ensures answer { IsTrue result ↔ HasRoomAt self.now key.now }
-        ensures cost { IsLogarithmic (length key.now) (steps.old + 2) steps.new }
+    /// Whether a change at this key can be set without a split. A put at the key then finds its leaf at once.
+    pub fn has_room<L: Ledger>(&mut self, key: &Key, steps: &mut Steps<L>) -> bool
+        ensures answer { IsTrue result ↔ HasRoomAt self.old key.now }
+        ensures same { self.new ≡ self.old }
+        ensures cost { IsLogarithmic (length key.now) (steps.old + 3) steps.new }
     {
-        let number = self.trie.find(key.as_bytes(), steps);
-        let leaf = &self.leaves[number as usize];
-        !leaf.is_full() || leaf.find(key).is_some()
+        let number = number_of(self.leaves.as_slice(), &self.trie, self.recent, key, steps);
+        self.recent = number;
+        has_room_in(&self.leaves[number as usize], key)
     }
 
     /// Sets the change at a key, and answers the old one. It takes no memory.
@@ -115,13 +122,27 @@ impl LeafTable {
         ensures rises { IsRun (pairs_of self.old) }
         ensures ranges { lows_of self.new ≡ lows_of self.old }
         ensures leaves { length self.new ≡ length self.old }
-        ensures cost { IsLogarithmic (length pair.key) (steps.old + 2) steps.new }
+        ensures cost { IsLogarithmic (length pair.key) (steps.old + 3) steps.new }
     {
-        let number = self.trie.find(pair.key.as_bytes(), steps);
+        let number = number_of(
+            self.leaves.as_slice(),
+            &self.trie,
+            self.recent,
+            &pair.key,
+            steps,
+        );
+        self.recent = number;
         let old = self.leaves[number as usize].put_reserved(pair);
         self.count = count_with(self.count, &old);
         old
     }
+}
+
+/// Whether a leaf has room for a pair more, or has the key.
+fn has_room_in(leaf: &Leaf, key: &Key) -> bool
+    ensures { IsTrue result ↔ HasRoom leaf.now key.now }
+{
+    !leaf.is_full() || leaf.find(key).is_some()
 }
 
 /// How many pairs there are after a put that answered this: one more, where there was none.

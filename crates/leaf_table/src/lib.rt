@@ -12,6 +12,7 @@
 #![tactic(auto)]
 
 mod emptying;
+mod finding;
 mod leaf_table;
 pub mod limits;
 mod split_error;

@@ -13,6 +13,7 @@ ghost use Rattle.leaf_table.specs.Chains.{pairs_of, HasRoomAt};
 ghost use Rattle.leaf_table.specs.Splits.{SplitsAt, IsFullAt, left_half, right_half};
 ghost use Rattle.leaf_table.specs.Tables.{leaf_at};
 
+use crate::finding::number_of;
 use crate::leaf_table::LeafTable;
 use crate::limits::LEAVES_MAX;
 use crate::split_error::SplitError;
@@ -39,9 +40,9 @@ impl LeafTable {
         ensures refused { OnErr result (self.new ≡ self.old) }
         ensures full { IsErrOf result SplitError.Full → IsFullAt self.old key.now }
         ensures memory { IsErrOf result SplitError.Memory → length self.old < LEAVES_MAX }
-        ensures cost { IsLogarithmic (length key.now) (steps.old + 2) steps.new }
+        ensures cost { IsLogarithmic (length key.now) (steps.old + 3) steps.new }
     {
-        let number = self.trie.find(key.as_bytes(), steps);
+        let number = number_of(self.leaves.as_slice(), &self.trie, self.recent, key, steps);
         let new = self.leaves.len();
         if new == LEAVES_MAX {
             return Err(SplitError::Full);

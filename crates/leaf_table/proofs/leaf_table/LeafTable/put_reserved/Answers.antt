@@ -1,4 +1,4 @@
-use Rattle.std.proofs.Common.{◌≡◌, ◌+◌, List, sym, ap, ◌∙◌, subst, arith}
+use Rattle.std.proofs.Common.{◌≡◌, ◌+◌, ◌<◌, List, sym, ap, ◌∙◌, subst, arith}
 use Rattle.std.specs.Prelude.{is_some, if◌then◌else◌}
 use Rattle.worm_leaf.specs.Leaves.{LeafState, covers}
 use Rattle.meta_trie.specs.Tries.{cover}
@@ -13,7 +13,7 @@ use Rattle.leaf_table.proofs.leaf_table.LeafTable.put_reserved.Goals as goal
 pub index_mut-requires : goal.index_mut-requires
 index_mut-requires g c =
     let leaves = c.self.inside.leaves.items in
-    let k : Covers leaves c.self.inside.order.items c.as_bytes.result.now c.find-number.result = covers-cover leaves c.self.inside.order.items c.self.inside.trie.added c.self.invariant.0 c.as_bytes.result.now c.find-number.result c.find-number.ensures.cover in
+    let k : Covers leaves c.self.inside.order.items c.args.pair.key c.number_of-number.result = covers-cover leaves c.self.inside.order.items c.self.inside.trie.added c.self.invariant.0 c.args.pair.key c.number_of-number.result c.number_of-number.ensures.cover in
     omega (arith, k.2, c.self.inside.leaves.ok.0)
 
 pub put_reserved-old-requires-clause-covered : goal.put_reserved-old-requires-clause-covered
@@ -21,8 +21,8 @@ put_reserved-old-requires-clause-covered g c =
     let leaves = c.self.inside.leaves.items in
     let order = c.self.inside.order.items in
     let key = c.args.pair.key in
-    let number = c.find-number.result in
-    let k : Covers leaves order key number = covers-cover leaves order c.self.inside.trie.added c.self.invariant.0 key number (c.find-number.ensures.cover ∙ ap (cover c.self.inside.trie.added) c.as_bytes.ensures.bytes) in
+    let number = c.number_of-number.result in
+    let k : Covers leaves order key number = covers-cover leaves order c.self.inside.trie.added c.self.invariant.0 key number c.number_of-number.ensures.cover in
     let leaf : c.index_mut.result.now ≡ leaf_at leaves number = leaf-is leaves number c.index_mut.result.now k.2 c.index_mut.ensures.value in
     ap (λ (x : LeafState). covers x key) leaf ∙ covered leaves order key number k
 
@@ -31,8 +31,8 @@ put_reserved-old-requires-clause-room g c =
     let leaves = c.self.inside.leaves.items in
     let order = c.self.inside.order.items in
     let key = c.args.pair.key in
-    let number = c.find-number.result in
-    let k : Covers leaves order key number = covers-cover leaves order c.self.inside.trie.added c.self.invariant.0 key number (c.find-number.ensures.cover ∙ ap (cover c.self.inside.trie.added) c.as_bytes.ensures.bytes) in
+    let number = c.number_of-number.result in
+    let k : Covers leaves order key number = covers-cover leaves order c.self.inside.trie.added c.self.invariant.0 key number c.number_of-number.ensures.cover in
     let leaf : c.index_mut.result.now ≡ leaf_at leaves number = leaf-is leaves number c.index_mut.result.now k.2 c.index_mut.ensures.value in
     subst (λ (x : LeafState). HasRoom x key) (sym leaf) (room-of leaves order key number k (subst (λ (chain : List LeafState). HasRoomAt chain key) (sym c.self.view_is) c.requires.room))
 
@@ -50,10 +50,10 @@ invariant_of-self g c =
     let order = c.self.inside.order.items in
     let added = c.self.inside.trie.added in
     let pair = c.args.pair in
-    let number = c.find-number.result in
+    let number = c.number_of-number.result in
     let new = c.put_reserved-old.new.self in
     let t = c.self.invariant.0 in
-    let k : Covers leaves order pair.key number = covers-cover leaves order added t pair.key number (c.find-number.ensures.cover ∙ ap (cover added) c.as_bytes.ensures.bytes) in
+    let k : Covers leaves order pair.key number = covers-cover leaves order added t pair.key number c.number_of-number.ensures.cover in
     let leaf : c.index_mut.result.now ≡ leaf_at leaves number = leaf-is leaves number c.index_mut.result.now k.2 c.index_mut.ensures.value in
     let new_is : new ≡ record (leaf_at leaves number) { pairs = with_pair (leaf_at leaves number).pairs pair } =
     c.put_reserved-old.ensures.set ∙ ap (λ (x : LeafState). record x { pairs = with_pair x.pairs pair }) leaf in
@@ -72,6 +72,7 @@ invariant_of-self g c =
         spare = c.self.invariant.2.spare;
         fresh = c.self.invariant.2.fresh;
       },
+      subst (λ len. number < len) (sym (length-set leaves number new)) k.2,
     )
 
 pub returns-clause-set : goal.returns-clause-set
@@ -80,10 +81,10 @@ returns-clause-set g c =
     let order = c.self.inside.order.items in
     let added = c.self.inside.trie.added in
     let pair = c.args.pair in
-    let number = c.find-number.result in
+    let number = c.number_of-number.result in
     let new = c.put_reserved-old.new.self in
     let t = c.self.invariant.0 in
-    let k : Covers leaves order pair.key number = covers-cover leaves order added t pair.key number (c.find-number.ensures.cover ∙ ap (cover added) c.as_bytes.ensures.bytes) in
+    let k : Covers leaves order pair.key number = covers-cover leaves order added t pair.key number c.number_of-number.ensures.cover in
     let leaf : c.index_mut.result.now ≡ leaf_at leaves number = leaf-is leaves number c.index_mut.result.now k.2 c.index_mut.ensures.value in
     let new_is : new ≡ record (leaf_at leaves number) { pairs = with_pair (leaf_at leaves number).pairs pair } =
     c.put_reserved-old.ensures.set ∙ ap (λ (x : LeafState). record x { pairs = with_pair x.pairs pair }) leaf in
@@ -96,9 +97,9 @@ returns-clause-old g c =
     let order = c.self.inside.order.items in
     let added = c.self.inside.trie.added in
     let pair = c.args.pair in
-    let number = c.find-number.result in
+    let number = c.number_of-number.result in
     let t = c.self.invariant.0 in
-    let k : Covers leaves order pair.key number = covers-cover leaves order added t pair.key number (c.find-number.ensures.cover ∙ ap (cover added) c.as_bytes.ensures.bytes) in
+    let k : Covers leaves order pair.key number = covers-cover leaves order added t pair.key number c.number_of-number.ensures.cover in
     let leaf : c.index_mut.result.now ≡ leaf_at leaves number = leaf-is leaves number c.index_mut.result.now k.2 c.index_mut.ensures.value in
     let old : c.put_reserved-old.result ≡ change_at (leaf_at leaves number).pairs pair.key = c.put_reserved-old.ensures.old ∙ ap (λ (x : LeafState). change_at x.pairs pair.key) leaf in
     old ∙ found leaves order pair.key number k ∙ ap (λ (chain : List LeafState). change_at (pairs_of chain) pair.key) c.self.view_is
@@ -112,9 +113,9 @@ returns-clause-ranges g c =
     let order = c.self.inside.order.items in
     let added = c.self.inside.trie.added in
     let key = c.args.pair.key in
-    let number = c.find-number.result in
+    let number = c.number_of-number.result in
     let t = c.self.invariant.0 in
-    let k : Covers leaves order key number = covers-cover leaves order added t key number (c.find-number.ensures.cover ∙ ap (cover added) c.as_bytes.ensures.bytes) in
+    let k : Covers leaves order key number = covers-cover leaves order added t key number c.number_of-number.ensures.cover in
     let leaf : c.index_mut.result.now ≡ leaf_at leaves number = leaf-is leaves number c.index_mut.result.now k.2 c.index_mut.ensures.value in
     lows-put leaves order added t key number k c.put_reserved-old.new.self (ap (λ (x : LeafState). x.low) c.put_reserved-old.ensures.set ∙ ap (λ (x : LeafState). x.low) leaf)
     ∙ ap lows_of c.self.view_is

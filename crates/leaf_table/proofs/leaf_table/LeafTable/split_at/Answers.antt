@@ -16,8 +16,8 @@ use Rattle.leaf_table.proofs.leaf_table.LeafTable.split_at.Goals as goal
 
 pub index-requires : goal.index-requires
 index-requires g c =
-    let k : Covers c.self.inside.leaves.items c.self.inside.order.items c.args.key.now c.find-number.result = covers-cover c.self.inside.leaves.items c.self.inside.order.items c.self.inside.trie.added c.self.invariant.0 c.args.key.now c.find-number.result
-    (c.find-number.ensures.cover ∙ ap (cover c.self.inside.trie.added) c.as_bytes.ensures.bytes) in
+    let k : Covers c.self.inside.leaves.items c.self.inside.order.items c.args.key.now c.number_of-number.result = covers-cover c.self.inside.leaves.items c.self.inside.order.items c.self.inside.trie.added c.self.invariant.0 c.args.key.now c.number_of-number.result
+    c.number_of-number.ensures.cover in
     omega (arith, k.2, c.self.inside.leaves.ok.0)
 
 pub prepare-requires-clause-full : goal.prepare-requires-clause-full
@@ -25,16 +25,16 @@ prepare-requires-clause-full g c =
     let leaves = c.self.inside.leaves.items in
     let order = c.self.inside.order.items in
     let added = c.self.inside.trie.added in
-    let number = c.find-number.result in
-    let k : Covers leaves order c.args.key.now number = covers-cover leaves order added c.self.invariant.0 c.args.key.now number (c.find-number.ensures.cover ∙ ap (cover added) c.as_bytes.ensures.bytes) in
+    let number = c.number_of-number.result in
+    let k : Covers leaves order c.args.key.now number = covers-cover leaves order added c.self.invariant.0 c.args.key.now number c.number_of-number.ensures.cover in
     let leaf : c.index.result.now ≡ leaf_at leaves number = leaf-is leaves number c.index.result.now k.2 c.index.ensures in
     ap (λ (x : LeafState). length x.pairs) leaf
     ∙ full-at leaves order added c.self.invariant.0 c.args.key.now number k (λ room. c.requires.full (subst (λ (chain : List LeafState). HasRoomAt chain c.args.key.now) c.self.view_is room))
 
 pub returns-in_err-right-clause-full : goal.returns-in_err-right-clause-full
 returns-in_err-right-clause-full g c =
-    let p : Parting c.self.inside.leaves.items c.self.inside.order.items c.self.inside.trie.added c.args.key.now c.find-number.result c.prepare.new.anchor = parting c.self.inside.leaves.items c.self.inside.order.items c.self.inside.trie.added c.self.invariant.0 c.args.key.now c.find-number.result
-    (c.find-number.ensures.cover ∙ ap (cover c.self.inside.trie.added) c.as_bytes.ensures.bytes)
+    let p : Parting c.self.inside.leaves.items c.self.inside.order.items c.self.inside.trie.added c.args.key.now c.number_of-number.result c.prepare.new.anchor = parting c.self.inside.leaves.items c.self.inside.order.items c.self.inside.trie.added c.self.invariant.0 c.args.key.now c.number_of-number.result
+    c.number_of-number.ensures.cover
     (λ room. c.requires.full (subst (λ (chain : List LeafState). HasRoomAt chain c.args.key.now) c.self.view_is room))
     c.index.result.now c.index.ensures c.prepare.new.anchor c.prepare.ensures.anchor c.prepare.ensures.inside in
     let same : c.from_residual.result ≡ Err c.in_err-right.field-0.0 = search rules in
@@ -44,9 +44,9 @@ returns-in_err-right-clause-full g c =
       added = c.self.inside.trie.added;
       table = c.self.invariant.0;
       same = sym c.self.view_is;
-      number = c.find-number.result;
+      number = c.number_of-number.result;
       within = p.here.2;
-      covered = covered c.self.inside.leaves.items c.self.inside.order.items c.args.key.now c.find-number.result p.here;
+      covered = covered c.self.inside.leaves.items c.self.inside.order.items c.args.key.now c.number_of-number.result p.here;
       anchor = c.prepare.new.anchor;
       pairs = p.full;
       parts = p.parts;
@@ -60,65 +60,65 @@ returns-in_err-right-clause-memory g c =
 
 pub add-requires-clause-new : goal.add-requires-clause-new
 add-requires-clause-new g c =
-    let p : Parting c.self.inside.leaves.items c.self.inside.order.items c.self.inside.trie.added c.args.key.now c.find-number.result c.prepare.new.anchor = parting c.self.inside.leaves.items c.self.inside.order.items c.self.inside.trie.added c.self.invariant.0 c.args.key.now c.find-number.result
-    (c.find-number.ensures.cover ∙ ap (cover c.self.inside.trie.added) c.as_bytes.ensures.bytes)
+    let p : Parting c.self.inside.leaves.items c.self.inside.order.items c.self.inside.trie.added c.args.key.now c.number_of-number.result c.prepare.new.anchor = parting c.self.inside.leaves.items c.self.inside.order.items c.self.inside.trie.added c.self.invariant.0 c.args.key.now c.number_of-number.result
+    c.number_of-number.ensures.cover
     (λ room. c.requires.full (subst (λ (chain : List LeafState). HasRoomAt chain c.args.key.now) c.self.view_is room))
     c.index.result.now c.index.ensures c.prepare.new.anchor c.prepare.ensures.anchor c.prepare.ensures.inside in
-    subst (λ xs. IsNew xs c.as_bytes-2.result.now) (sym c.prepare.ensures.added) (subst (IsNew c.self.inside.trie.added) (sym c.as_bytes-2.ensures.bytes) (parting-new c.self.inside.leaves.items c.self.inside.order.items c.self.inside.trie.added c.args.key.now c.find-number.result c.prepare.new.anchor p))
+    subst (λ xs. IsNew xs c.as_bytes.result.now) (sym c.prepare.ensures.added) (subst (IsNew c.self.inside.trie.added) (sym c.as_bytes.ensures.bytes) (parting-new c.self.inside.leaves.items c.self.inside.order.items c.self.inside.trie.added c.args.key.now c.number_of-number.result c.prepare.new.anchor p))
 
 pub add-requires-clause-after : goal.add-requires-clause-after
 add-requires-clause-after g c =
-    let p : Parting c.self.inside.leaves.items c.self.inside.order.items c.self.inside.trie.added c.args.key.now c.find-number.result c.prepare.new.anchor = parting c.self.inside.leaves.items c.self.inside.order.items c.self.inside.trie.added c.self.invariant.0 c.args.key.now c.find-number.result
-    (c.find-number.ensures.cover ∙ ap (cover c.self.inside.trie.added) c.as_bytes.ensures.bytes)
+    let p : Parting c.self.inside.leaves.items c.self.inside.order.items c.self.inside.trie.added c.args.key.now c.number_of-number.result c.prepare.new.anchor = parting c.self.inside.leaves.items c.self.inside.order.items c.self.inside.trie.added c.self.invariant.0 c.args.key.now c.number_of-number.result
+    c.number_of-number.ensures.cover
     (λ room. c.requires.full (subst (λ (chain : List LeafState). HasRoomAt chain c.args.key.now) c.self.view_is room))
     c.index.result.now c.index.ensures c.prepare.new.anchor c.prepare.ensures.anchor c.prepare.ensures.inside in
-    parting-cover c.self.inside.leaves.items c.self.inside.order.items c.self.inside.trie.added c.args.key.now c.find-number.result c.prepare.new.anchor p ∙ ap (cover c.self.inside.trie.added) (sym c.as_bytes-2.ensures.bytes) ∙ ap (λ xs. cover xs c.as_bytes-2.result.now) (sym c.prepare.ensures.added)
+    parting-cover c.self.inside.leaves.items c.self.inside.order.items c.self.inside.trie.added c.args.key.now c.number_of-number.result c.prepare.new.anchor p ∙ ap (cover c.self.inside.trie.added) (sym c.as_bytes.ensures.bytes) ∙ ap (λ xs. cover xs c.as_bytes.result.now) (sym c.prepare.ensures.added)
 
 pub halve-requires-clause-within : goal.halve-requires-clause-within
 halve-requires-clause-within g c =
-    let k : Covers c.self.inside.leaves.items c.self.inside.order.items c.args.key.now c.find-number.result = covers-cover c.self.inside.leaves.items c.self.inside.order.items c.self.inside.trie.added c.self.invariant.0 c.args.key.now c.find-number.result
-    (c.find-number.ensures.cover ∙ ap (cover c.self.inside.trie.added) c.as_bytes.ensures.bytes) in
+    let k : Covers c.self.inside.leaves.items c.self.inside.order.items c.args.key.now c.number_of-number.result = covers-cover c.self.inside.leaves.items c.self.inside.order.items c.self.inside.trie.added c.self.invariant.0 c.args.key.now c.number_of-number.result
+    c.number_of-number.ensures.cover in
     omega (arith, k.2, c.self.inside.leaves.ok.0)
 
 pub halve-requires-clause-full : goal.halve-requires-clause-full
 halve-requires-clause-full g c =
-    let p : Parting c.self.inside.leaves.items c.self.inside.order.items c.self.inside.trie.added c.args.key.now c.find-number.result c.prepare.new.anchor = parting c.self.inside.leaves.items c.self.inside.order.items c.self.inside.trie.added c.self.invariant.0 c.args.key.now c.find-number.result
-    (c.find-number.ensures.cover ∙ ap (cover c.self.inside.trie.added) c.as_bytes.ensures.bytes)
+    let p : Parting c.self.inside.leaves.items c.self.inside.order.items c.self.inside.trie.added c.args.key.now c.number_of-number.result c.prepare.new.anchor = parting c.self.inside.leaves.items c.self.inside.order.items c.self.inside.trie.added c.self.invariant.0 c.args.key.now c.number_of-number.result
+    c.number_of-number.ensures.cover
     (λ room. c.requires.full (subst (λ (chain : List LeafState). HasRoomAt chain c.args.key.now) c.self.view_is room))
     c.index.result.now c.index.ensures c.prepare.new.anchor c.prepare.ensures.anchor c.prepare.ensures.inside in
     p.full
 
 pub halve-requires-clause-anchor : goal.halve-requires-clause-anchor
 halve-requires-clause-anchor g c =
-    let p : Parting c.self.inside.leaves.items c.self.inside.order.items c.self.inside.trie.added c.args.key.now c.find-number.result c.prepare.new.anchor = parting c.self.inside.leaves.items c.self.inside.order.items c.self.inside.trie.added c.self.invariant.0 c.args.key.now c.find-number.result
-    (c.find-number.ensures.cover ∙ ap (cover c.self.inside.trie.added) c.as_bytes.ensures.bytes)
+    let p : Parting c.self.inside.leaves.items c.self.inside.order.items c.self.inside.trie.added c.args.key.now c.number_of-number.result c.prepare.new.anchor = parting c.self.inside.leaves.items c.self.inside.order.items c.self.inside.trie.added c.self.invariant.0 c.args.key.now c.number_of-number.result
+    c.number_of-number.ensures.cover
     (λ room. c.requires.full (subst (λ (chain : List LeafState). HasRoomAt chain c.args.key.now) c.self.view_is room))
     c.index.result.now c.index.ensures c.prepare.new.anchor c.prepare.ensures.anchor c.prepare.ensures.inside in
     p.parts
 
 pub insert_after-requires-clause-there : goal.insert_after-requires-clause-there
 insert_after-requires-clause-there g c =
-    let p : Parting c.self.inside.leaves.items c.self.inside.order.items c.self.inside.trie.added c.args.key.now c.find-number.result c.prepare.new.anchor = parting c.self.inside.leaves.items c.self.inside.order.items c.self.inside.trie.added c.self.invariant.0 c.args.key.now c.find-number.result
-    (c.find-number.ensures.cover ∙ ap (cover c.self.inside.trie.added) c.as_bytes.ensures.bytes)
+    let p : Parting c.self.inside.leaves.items c.self.inside.order.items c.self.inside.trie.added c.args.key.now c.number_of-number.result c.prepare.new.anchor = parting c.self.inside.leaves.items c.self.inside.order.items c.self.inside.trie.added c.self.invariant.0 c.args.key.now c.number_of-number.result
+    c.number_of-number.ensures.cover
     (λ room. c.requires.full (subst (λ (chain : List LeafState). HasRoomAt chain c.args.key.now) c.self.view_is room))
     c.index.result.now c.index.ensures c.prepare.new.anchor c.prepare.ensures.anchor c.prepare.ensures.inside in
-    parting-place c.self.inside.leaves.items c.self.inside.order.items c.self.inside.trie.added c.args.key.now c.find-number.result c.prepare.new.anchor p
+    parting-place c.self.inside.leaves.items c.self.inside.order.items c.self.inside.trie.added c.args.key.now c.number_of-number.result c.prepare.new.anchor p
 
 -- the table after the last step
 split : (g : Over) (c : goal.After-insert_after g) → Parted c.self.inside.leaves.items c.self.inside.order.items c.args.key.now c.halve.new.leaves.items c.insert_after.new.order.items c.add.new.self.added
 split g c =
-    let p : Parting c.self.inside.leaves.items c.self.inside.order.items c.self.inside.trie.added c.args.key.now c.find-number.result c.prepare.new.anchor = parting c.self.inside.leaves.items c.self.inside.order.items c.self.inside.trie.added c.self.invariant.0 c.args.key.now c.find-number.result
-    (c.find-number.ensures.cover ∙ ap (cover c.self.inside.trie.added) c.as_bytes.ensures.bytes)
+    let p : Parting c.self.inside.leaves.items c.self.inside.order.items c.self.inside.trie.added c.args.key.now c.number_of-number.result c.prepare.new.anchor = parting c.self.inside.leaves.items c.self.inside.order.items c.self.inside.trie.added c.self.invariant.0 c.args.key.now c.number_of-number.result
+    c.number_of-number.ensures.cover
     (λ room. c.requires.full (subst (λ (chain : List LeafState). HasRoomAt chain c.args.key.now) c.self.view_is room))
     c.index.result.now c.index.ensures c.prepare.new.anchor c.prepare.ensures.anchor c.prepare.ensures.inside in
     let len : c.len-new.result ≡ length c.self.inside.leaves.items = omega (arith, c.len-new.ensures, c.self.inside.leaves.ok.0) in
-    parted c.self.inside.leaves.items c.self.inside.order.items c.self.inside.trie.added c.args.key.now c.find-number.result c.prepare.new.anchor p
+    parted c.self.inside.leaves.items c.self.inside.order.items c.self.inside.trie.added c.args.key.now c.number_of-number.result c.prepare.new.anchor p
     c.halve.new.leaves.items c.halve.ensures.halves
     c.insert_after.new.order.items (λ place there. c.insert_after.ensures.inserted place there ∙ ap (insert c.self.inside.order.items (place + 1)) len)
     c.add.new.self.added
-    (subst (λ (r : Result (Unit {0}) TrieError). OnOk r (c.add.new.self.added ≡ c.prepare.new.trie.added ++ record { anchor = c.as_bytes-2.result.now; leaf = c.len-new.result } ∷ [])) c.unwrap.ensures c.add.ensures.added
-    ∙ ap (λ (xs : List Anchored). xs ++ record { anchor = c.as_bytes-2.result.now; leaf = c.len-new.result } ∷ []) c.prepare.ensures.added
-    ∙ ap (λ anchor. c.self.inside.trie.added ++ record { anchor = anchor; leaf = c.len-new.result } ∷ []) c.as_bytes-2.ensures.bytes
+    (subst (λ (r : Result (Unit {0}) TrieError). OnOk r (c.add.new.self.added ≡ c.prepare.new.trie.added ++ record { anchor = c.as_bytes.result.now; leaf = c.len-new.result } ∷ [])) c.unwrap.ensures c.add.ensures.added
+    ∙ ap (λ (xs : List Anchored). xs ++ record { anchor = c.as_bytes.result.now; leaf = c.len-new.result } ∷ []) c.prepare.ensures.added
+    ∙ ap (λ anchor. c.self.inside.trie.added ++ record { anchor = anchor; leaf = c.len-new.result } ∷ []) c.as_bytes.ensures.bytes
     ∙ ap (λ n. c.self.inside.trie.added ++ record { anchor = c.prepare.new.anchor; leaf = n } ∷ []) len)
 
 pub invariant_of-self-2 : goal.invariant_of-self-2
@@ -134,6 +134,7 @@ invariant_of-self-2 g c =
         spare = omega (arith, c.self.invariant.2.spare, c.prepare.ensures.capacity);
         fresh = c.prepare.ensures.unused;
       },
+      omega (arith, c.self.invariant.3, after.leaves_one),
     )
 
 pub returns-clause-pairs : goal.returns-clause-pairs
