@@ -1,8 +1,12 @@
--- What an opening leaves of a strip. To know: `WasStarted`, `calls-started`, `is_opened`.
+-- What an opening leaves of a strip. To know: `WasStarted`, `calls-started`, `start_refused`, `is_opened`.
 use Rattle.std.proofs.Common.{◌≡◌, ◌⊎◌, inl, inr, ℕ, ◌+◌, ◌≤◌, true, Bool, IsTrue, List, [], ◌∷◌, ◌++◌, length, Result, Ok, Err, refl, sym, ap, subst, ◌∙◌, arith}
 use Rattle.rdb_base.specs.declared.entry.Entry.{Entry}
 use Rattle.rdb_base.specs.declared.limits.TheConstants.{NUMBER_MAX}
 use Rattle.rdb_base.specs.Maps.{applied_all}
+use Rattle.fault_count.specs.Counts.{RoseByOne}
+use Rattle.disk_model.specs.Causes.{CauseOf}
+use Rattle.disk_model.specs.declared.device_error.DeviceError.{DeviceError}
+use Rattle.disk_model.specs.declared.device_error.DeviceError.TheVariants as device
 use Rattle.disk_model.specs.declared.strip.Strip.{Ghosts}
 use Rattle.frame_journal.specs.Devices.{SameStrip, LeavesNoMore, OfBytes, OfImages, Spans}
 use Rattle.frame_journal.specs.Frames.{frames_of}
@@ -12,7 +16,8 @@ use Rattle.wal_log.specs.Calls.{SameEntries, HasFront, StripCalls}
 use Rattle.wal_log.specs.declared.log_error.LogError.{LogError}
 use Rattle.store_run.specs.Reopening.{ReopensTo, ReopensAlike}
 use Rattle.store_run.specs.StoreState.{state_of}
-use Rattle.store_run.specs.Openings.{IsAsBefore, OpeningCalls, IsOpened}
+use Rattle.store_run.specs.declared.open_error.OpenError.{OpenError}
+use Rattle.store_run.specs.Openings.{IsAsBefore, OpeningCalls, IsOpened, IsRefused, IsDeviceErrorOf}
 use Rattle.store_run.proofs.ReopenLemmas.{front_whole, front_is}
 
 -- ---- bytes
@@ -111,6 +116,22 @@ module _ {S : Type 0} (strip : Ghosts S) where
 
   pub opened_whole : (old : S) (log now : SegmentState S) (entries : List Entry) → WasStarted old log now entries → OfImages strip now.journal.strip (ReopensTo (applied_all [] entries) (length entries))
   opened_whole old log now entries w = λ told c may. reopens_to entries c (now_front old log now entries c w (w.images told c may))
+
+  -- the strip whose start failed, with the unit of its book or for memory
+  pub start_refused : (old : S) (log now : SegmentState S) (entries : List Entry) (error : DeviceError) (refusal : OpenError) → WasStarted old log now entries → IsDeviceErrorOf error refusal → CauseOf (strip.book log.journal.strip) (strip.count log.journal.strip) (strip.count now.journal.strip) error →
+      strip.count log.journal.strip ≡ strip.count old → IsRefused strip refusal old now.journal.strip
+  start_refused old log now entries (device.Fault unit) refusal w is cause count = subst (λ (e : OpenError). IsRefused strip e old now.journal.strip) (sym is) (record {
+    refused = λ told. tt;
+    kept = λ told. inr (record { rows = applied_all [] entries; number = length entries; to = reopens_to entries (strip.content old) (w.read told) });
+    cause = (cause.0 ∙ w.same.book, subst (λ (n : ℕ). RoseByOne n (strip.count now.journal.strip)) count cause.1);
+    calls = calls-started old log now entries w;
+  })
+  start_refused old log now entries device.Memory refusal w is cause count = subst (λ (e : OpenError). IsRefused strip e old now.journal.strip) (sym is) (record {
+    refused = λ told. tt;
+    kept = λ told. inr (record { rows = applied_all [] entries; number = length entries; to = reopens_to entries (strip.content old) (w.read told) });
+    cause = cause ∙ count;
+    calls = calls-started old log now entries w;
+  })
 
   -- the pass that was opened
   pub is_opened : (old : S) (log now : SegmentState S) (entries opened made : List Entry) → WasStarted old log now entries → opened ≡ entries → made ≡ [] → strip.count now.journal.strip ≡ strip.count old → length entries ≤ NUMBER_MAX → IsOpened strip old (state_of now opened made)

@@ -1,17 +1,10 @@
 -- An entry that is appended to a log.
 use Rattle.std.specs.Prelude.{◌≡◌, ℕ, ◌+◌, ◌<◌, [], ◌∷◌, ◌++◌, true, length}
-use Rattle.rdb_base.specs.declared.change.Change.{Change}
-use Rattle.rdb_base.specs.declared.change.Change.TheVariants.{Put, Del}
 use Rattle.rdb_base.specs.declared.entry.Entry.{Entry}
 use Rattle.rdb_base.specs.declared.limits.TheConstants.{NUMBER_MAX}
 use Rattle.entry_code.specs.Payloads.{entry_fields}
 use Rattle.wal_log.specs.declared.limits.TheConstants.{PENDING_MAX}
 use Rattle.wal_log.specs.SegmentState.{SegmentState}
-
--- the change gives a value
-abbrev pub IsPut : Change → Type 0
-IsPut (Put value) = Unit {0}
-IsPut Del = ⊥
 
 -- the log takes one entry more, where there is room for it
 pub record MayAppend {S : Type 0} (log : SegmentState S) : Type 0 where

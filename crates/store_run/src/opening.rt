@@ -2,26 +2,28 @@
 ghost use Rattle.std.specs.Prelude.{◌≡◌, [], IfOk, IfErr};
 ghost use Rattle.rdb_base.specs.Maps.{applied_all};
 ghost use Rattle.store_run.specs.Openings.{IsOpened, IsRefused};
+ghost use Rattle.store_run.specs.Rows.{rows_of};
 
 use crate::open_error::OpenError;
-use crate::ordered_map::OrderedMap;
+use crate::rows::set;
 use crate::store_pass::StorePass;
 use disk_model::Strip;
+use memory_rows::MemoryRows;
 use rdb_base::{Entry, NoMemory, ToldEntries};
 use std::alloc::Global;
 use std::snapshot::Snapshot;
 use wal_log::Segment;
 
 /// The map after these entries, and the entries as contracts see them. Keys and values move into the map.
-fn map_after(alloc: Global, entries: Vec<Entry>) -> Result<(OrderedMap, ToldEntries), NoMemory>
-    ensures map { IfOk result (λ found. found.0 ≡ applied_all [] entries.items) }
+fn map_after(alloc: Global, entries: Vec<Entry>) -> Result<(MemoryRows, ToldEntries), NoMemory>
+    ensures map { IfOk result (λ found. rows_of found.0 ≡ applied_all [] entries.items) }
     ensures told { IfOk result (λ found. found.1 ≡ entries.items) }
 {
-    let mut map = OrderedMap::new(alloc);
+    let mut map = MemoryRows::make(alloc)?;
     let mut told = ToldEntries::new();
     for entry in entries {
         told.push(&entry);
-        map.set(entry.key, entry.change)?;
+        set(alloc, &mut map, entry.key, entry.change)?;
     }
     Ok((map, told))
 }

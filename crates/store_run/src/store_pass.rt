@@ -7,8 +7,9 @@ ghost use Rattle.frame_journal.specs.JournalState.{has_staged};
 ghost use Rattle.session_core.specs.StoreCalls.{GetMoves, SyncMoves, HasSyncUnit};
 ghost use Rattle.store_run.specs.Stores.{pass_of, history_of, ReopensSynced, ReopensWhole, CallsOf, Stays};
 
-use crate::ordered_map::OrderedMap;
+use crate::rows::copy_at;
 use disk_model::Strip;
+use memory_rows::MemoryRows;
 use rdb_base::{Key, NoMemory, ToldEntries};
 use session_core::{Found, SyncError};
 use std::alloc::Global;
@@ -22,7 +23,7 @@ use wal_log::Segment;
 #[derive(Drop)]
 pub struct StorePass<S: Strip> {
     pub(crate) log: Segment<S>,
-    pub(crate) map: OrderedMap,
+    pub(crate) map: MemoryRows,
     /// The number of the first entry since the opening.
     pub(crate) begun: u64,
     pub(crate) opened: Snapshot<ToldEntries>,
@@ -32,12 +33,13 @@ pub struct StorePass<S: Strip> {
 impl<S: Strip> Model for StorePass<S> {
     ghost use Rattle.store_run.specs.StoreState.{StoreState};
     ghost use Rattle.store_run.specs.Kept.{IsStore};
+    ghost use Rattle.store_run.specs.Rows.{rows_of};
 
     ghost Value = { StoreState S };
 
     ghost view = { λ p. record { log = p.log; opened = p.opened.value; made = p.made } };
 
-    ghost invariant = { λ p. IsStore S.Strip p.log p.map p.begun p.opened.value p.made };
+    ghost invariant = { λ p. IsStore S.Strip p.log (rows_of p.map) p.begun p.opened.value p.made };
 }
 
 impl<S: Strip> StorePass<S> {
@@ -46,7 +48,7 @@ impl<S: Strip> StorePass<S> {
         ensures { GetMoves (pass_of S.Strip self.now) key.now result (pass_of S.Strip self.now) }
     {
         let front = self.log.end();
-        let value = self.map.copy_at(alloc, key)?;
+        let value = copy_at(alloc, &self.map, key)?;
         Ok(Found { front, value })
     }
 

@@ -9,6 +9,7 @@ ghost use Rattle.wal_log.specs.declared.limits.TheConstants.{PENDING_MAX};
 ghost use Rattle.session_core.specs.StoreCalls.{UpdateMoves, HasUpdateUnit};
 ghost use Rattle.store_run.specs.Stores.{pass_of, history_of, CallsOf, Stays, EntersOnly};
 
+use crate::rows::append;
 use crate::store_pass::StorePass;
 use disk_model::{DeviceError, Strip};
 use rdb_base::{Change, Entry, Key, NUMBER_MAX, NoMemory, Value};
@@ -96,11 +97,6 @@ impl<S: Strip> StorePass<S> {
             change,
         };
         self.log.reserve(&entry)?;
-        match &entry.change {
-            Change::Put(_) => self
-                .map
-                .append_put(alloc, &mut self.log, &mut self.made, entry),
-            Change::Del => Ok(self.map.append_delete(&mut self.log, &mut self.made, entry)),
-        }
+        append(alloc, &mut self.map, &mut self.log, &mut self.made, entry)
     }
 }
