@@ -34,6 +34,10 @@ first-leaves {S} strip devices first strips a b h bytes w (s, at, left) =
     let here : slice_get (first ∷ strips) 0 ≡ Some s = subst (λ (xs : List S). slice_get (xs ++ (devices.manifest_a ∷ (devices.manifest_b ∷ []))) 0 ≡ Some s) w.strips_are at in
     subst (λ (x : S). strip.may_leave x bytes) (sym (some_is first s here)) left
 
+-- what a crash may leave of the first strip it may leave of device 0
+pub leaves-first : {S H : Type 0} (strip : StripGhosts S) (devices : Devices S H) (first : S) (strips : List S) (a b : S) (h : H) (bytes : List ℕ) → WithFirst devices first strips a b h → strip.may_leave first bytes → StripLeaves strip devices 0 bytes
+leaves-first strip devices first strips a b h bytes w left = (first, rw (w.strips_are) refl, left)
+
 -- their counts before and after, of which that of the first strip alone rose
 pub counts_again : {S H : Type 0} (strip : StripGhosts S) (shelf : ShelfGhosts H) (old new : Devices S H) (first again : S) (strips : List S) (a b : S) (h : H) → WithFirst old first strips a b h → WithFirst new again strips a b h → strip.count first ≤ strip.count again → NoneFell (device_counts strip shelf old) (device_counts strip shelf new)
 counts_again strip shelf old new first again strips a b h was is later = rw (counts-first strip shelf old first strips a b h was, counts-first strip shelf new again strips a b h is) (later, none_fell-same (other_counts strip shelf strips a b h))

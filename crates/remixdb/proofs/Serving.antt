@@ -159,9 +159,9 @@ run_status false None SinkFault = inl (inr (inr refl))
 not_three : (short : Bool) (failed : Option ℕ) (end : SessionEnd) → status_of (outcome_of_run short failed end) ≡ 3 → ⊥
 not_three short failed end e = omega (arith, e, run_status short failed end)
 
-pub run_ends : {S : Type 0} (strip : Ghosts S) (leaves : List ℕ → Type 0) (old new : HomeState) (r : Run strip leaves old new) (status : ℕ) → status ≡ status_of (outcome_of_run r.short r.failed r.end) → ScriptEnds status leaves old new
+pub run_ends : {S : Type 0} (strip : Ghosts S) (left leaves : List ℕ → Type 0) (old new : HomeState) (r : Run strip leaves old new) (status : ℕ) → status ≡ status_of (outcome_of_run r.short r.failed r.end) → ScriptEnds status left leaves old new
 unfolding served
-run_ends strip leaves old new r status e =
+run_ends strip left leaves old new r status e =
     let s = served strip leaves old new r in
     let here : IsOfSession status → CleanRun (HasWhole strip r.after r.last) r.short r.failed r.end (strip.count r.first) (strip.count r.last) r.units = λ is. clean_of strip leaves old new r (subst (λ (n : ℕ). IsOfSession n) e is) in
     record {
@@ -235,18 +235,20 @@ never_reopens (open_error.Device unit) bytes three refused r = omega (arith, thr
 never_reopens open_error.Memory bytes three refused r = omega (arith, three)
 
 -- the strip that came back from an opening
-pub record Refused {S : Type 0} (strip : Ghosts S) (error : OpenError) (old new : HomeState) : Type 0 where
+pub record Refused {S : Type 0} (strip : Ghosts S) (error : OpenError) (left leaves : List ℕ → Type 0) (old new : HomeState) : Type 0 where
   pub first : S
   pub last : S
   pub is_refused : IsRefused strip error first last
   pub was : old.strip ≡ strip_bytes strip first
   pub is : new.strip ≡ strip_bytes strip last
+  pub widens : (c : List ℕ) → strip.may_leave first c → left c
+  pub narrows : (c : List ℕ) → leaves c → strip.may_leave last c
   pub silent : IsSilent old new
   pub others : OthersStay old new
 
 -- its bytes are as they were, or they reopen to a map
-kept_or_reopens : {S : Type 0} (strip : Ghosts S) (error : OpenError) (old new : HomeState) (r : Refused strip error old new) → OfStrip old Reopens ⊎ (new.strip ≡ old.strip)
-kept_or_reopens strip error old new r = by_told (strip.tells r.first) refl
+kept_or_reopens : {S : Type 0} (strip : Ghosts S) (error : OpenError) (left leaves : List ℕ → Type 0) (old new : HomeState) (r : Refused strip error left leaves old new) → OfStrip old Reopens ⊎ (new.strip ≡ old.strip)
+kept_or_reopens strip error left leaves old new r = by_told (strip.tells r.first) refl
   where
     same_bytes : strip.tells r.first ≡ true → strip.content r.last ≡ strip.content r.first → new.strip ≡ old.strip
     same_bytes t same =
@@ -261,24 +263,31 @@ kept_or_reopens strip error old new r = by_told (strip.tells r.first) refl
         inl (λ bytes at. let nothing : None ≡ Some bytes = sym (r.was ∙ none) ∙ at in absurd cc)
     by_told true t = elim (r.is_refused.kept t) [ inl same ↦ inr (same_bytes t same) | inr reopens ↦ inl (of_strip strip r.first old Reopens r.was (λ told. reopens)) ]
 
-not_served_at_all : {S : Type 0} (strip : Ghosts S) (error : OpenError) (old new : HomeState) (r : Refused strip error old new) → NotServed old new
-not_served_at_all strip error old new r = record {
+not_served_at_all : {S : Type 0} (strip : Ghosts S) (error : OpenError) (left leaves : List ℕ → Type 0) (old new : HomeState) (r : Refused strip error left leaves old new) → NotServed left leaves old new
+not_served_at_all strip error left leaves old new r = record {
   silent = r.silent;
   alike = λ before at. of_strip strip r.last new (ReopensAlike before) r.is (λ told.
       let k = known_told strip r.first before (sym r.was ∙ at) in
       subst (λ (bytes : List ℕ). ReopensAlike bytes (strip.content r.last)) k.1 (r.is_refused.calls.bytes told));
+  images = λ before at now is image may.
+      let k = known_told strip r.first before (sym r.was ∙ at) in
+      let told = (known_told strip r.last now (sym r.is ∙ is)).0 in
+      elim (r.is_refused.calls.images told image (r.narrows image may)) [
+        | inl was ↦ inl (r.widens image was)
+        | inr alike ↦ inr (subst (λ (bytes : List ℕ). ReopensAlike bytes image) k.1 alike)
+      ];
 }
 
-pub refused_ends : {S : Type 0} (strip : Ghosts S) (error : OpenError) (leaves : List ℕ → Type 0) (old new : HomeState) (r : Refused strip error old new) (status : ℕ) → status ≡ status_of (outcome_of_refusal error) → ScriptEnds status leaves old new
-refused_ends strip error leaves old new r status e =
+pub refused_ends : {S : Type 0} (strip : Ghosts S) (error : OpenError) (left leaves : List ℕ → Type 0) (old new : HomeState) (r : Refused strip error left leaves old new) (status : ℕ) → status ≡ status_of (outcome_of_refusal error) → ScriptEnds status left leaves old new
+refused_ends strip error left leaves old new r status e =
     let none : IsOfSession status → ⊥ = λ is. not_served (status_of (outcome_of_refusal error)) (refused_status error) (subst (λ (n : ℕ). IsOfSession n) e is) in
     let never : status ≡ 3 → OfStrip old (λ bytes. Reopens bytes → ⊥) = λ three. of_strip strip r.first old (λ (bytes : List ℕ). Reopens bytes → ⊥) r.was (λ told. never_reopens error (strip.content r.first) (sym e ∙ three) (r.is_refused.refused told)) in
     record {
       ended = λ is. absurd (none is);
       refused = λ three. (record { silent = r.silent; strip = strip_kept three }, never three);
-      failed = λ four. inl (not_served_at_all strip error old new r);
-      short = λ six. inl (not_served_at_all strip error old new r);
-      idle = elim (kept_or_reopens strip error old new r) [ inl reopens ↦ inl reopens | inr same ↦ inr (record { silent = r.silent; strip = same }) ];
+      failed = λ four. inl (not_served_at_all strip error left leaves old new r);
+      short = λ six. inl (not_served_at_all strip error left leaves old new r);
+      idle = elim (kept_or_reopens strip error left leaves old new r) [ inl reopens ↦ inl reopens | inr same ↦ inr (record { silent = r.silent; strip = same }) ];
       others = r.others;
       complete = λ input is well few one. absurd (none (inr (inl one)));
     }
@@ -302,14 +311,15 @@ failed_not_three (device.Fault unit) e = omega (arith, e)
 failed_not_three device.Memory e = omega (arith, e)
 
 -- devices that were not handed out: only a count may have changed
-pub failed_ends : (error : DeviceError) (leaves : List ℕ → Type 0) (old new : HomeState) (status : ℕ) → IsIdle old new → OthersStay old new → status ≡ status_of (outcome_of_failure error) → ScriptEnds status leaves old new
-failed_ends error leaves old new status idle others e =
+pub failed_ends : (error : DeviceError) (left leaves : List ℕ → Type 0) (old new : HomeState) (status : ℕ) → IsIdle old new → OthersStay old new → ((c : List ℕ) → leaves c → left c) → status ≡ status_of (outcome_of_failure error) → ScriptEnds status left leaves old new
+failed_ends error left leaves old new status idle others narrows e =
     let none : IsOfSession status → ⊥ = λ is. not_served (status_of (outcome_of_failure error)) (failed_status error) (subst (λ (n : ℕ). IsOfSession n) e is) in
-    let alike : NotServed old new = record {
+    let alike : NotServed left leaves old new = record {
       silent = idle.silent;
       alike = λ before at after is rows number to.
           let same : before ≡ after = some_is before after (sym at ∙ sym idle.strip ∙ is) in
           subst (λ (bytes : List ℕ). ReopensTo rows number bytes) same to;
+      images = λ before at now is image may. inl (narrows image may);
     } in
     record {
       ended = λ is. absurd (none is);
@@ -342,8 +352,8 @@ failed_causes device.Memory old new status is e = record {
 }
 
 -- out of memory before any of it
-pub short_ends : (leaves : List ℕ → Type 0) (home : HomeState) → ScriptEnds 6 leaves home home
-short_ends leaves home = failed_ends device.Memory leaves home home 6 (record { silent = record { input = refl; output = refl }; strip = refl }) (record { strips = refl; files = refl }) refl
+pub short_ends : (leaves : List ℕ → Type 0) (home : HomeState) → ScriptEnds 6 leaves leaves home home
+short_ends leaves home = failed_ends device.Memory leaves leaves home home 6 (record { silent = record { input = refl; output = refl }; strip = refl }) (record { strips = refl; files = refl }) (λ bytes may. may) refl
 
 -- ---- what a crash may leave after a note
 
@@ -367,20 +377,27 @@ served_narrowed leaves fewer old new narrows s = record {
   counted = s.counted;
 }
 
+not_served_narrowed : (left leaves fewer : List ℕ → Type 0) (old new : HomeState) → ((c : List ℕ) → fewer c → leaves c) → NotServed left leaves old new → NotServed left fewer old new
+not_served_narrowed left leaves fewer old new narrows n = record {
+  silent = n.silent;
+  alike = n.alike;
+  images = λ before at now is image may. n.images before at now is image (narrows image may);
+}
+
 -- the same, where a crash may leave no more
-pub ends_narrowed : (status : ℕ) (leaves fewer : List ℕ → Type 0) (old new : HomeState) → ((c : List ℕ) → fewer c → leaves c) → ScriptEnds status leaves old new → ScriptEnds status fewer old new
+pub ends_narrowed : (status : ℕ) (left leaves fewer : List ℕ → Type 0) (old new : HomeState) → ((c : List ℕ) → fewer c → leaves c) → ScriptEnds status left leaves old new → ScriptEnds status left fewer old new
 unfolding served_narrowed
-ends_narrowed status leaves fewer old new narrows e = record {
+ends_narrowed status left leaves fewer old new narrows e = record {
   ended = λ is. let h = e.ended is in (served_narrowed leaves fewer old new narrows h.0, h.1, h.2, images_narrowed leaves fewer new _ narrows h.3);
   refused = e.refused;
-  failed = λ four. elim (e.failed four) [ inl none ↦ inl none | inr h ↦ inr (served_narrowed leaves fewer old new narrows h.0, λ all below. images_narrowed leaves fewer new _ narrows (h.1 all below)) ];
-  short = λ six. elim (e.short six) [ inl none ↦ inl none | inr s ↦ inr (served_narrowed leaves fewer old new narrows s) ];
+  failed = λ four. elim (e.failed four) [ inl none ↦ inl (not_served_narrowed left leaves fewer old new narrows none) | inr h ↦ inr (served_narrowed leaves fewer old new narrows h.0, λ all below. images_narrowed leaves fewer new _ narrows (h.1 all below)) ];
+  short = λ six. elim (e.short six) [ inl none ↦ inl (not_served_narrowed left leaves fewer old new narrows none) | inr s ↦ inr (served_narrowed leaves fewer old new narrows s) ];
   idle = e.idle;
   others = e.others;
   complete = e.complete;
 }
 
 -- the same, by the status that was answered and the host after the note
-pub ends_told : (status answered : ℕ) (leaves fewer : List ℕ → Type 0) (old new other : HomeState) → answered ≡ status → other ≡ new → ((c : List ℕ) → fewer c → leaves c) → ScriptEnds status leaves old new → ScriptEnds answered fewer old other
-ends_told status answered leaves fewer old new other same is narrows e =
-    subst (λ (h : HomeState). ScriptEnds answered fewer old h) (sym is) (subst (λ (n : ℕ). ScriptEnds n fewer old new) (sym same) (ends_narrowed status leaves fewer old new narrows e))
+pub ends_told : (status answered : ℕ) (left leaves fewer : List ℕ → Type 0) (old new other : HomeState) → answered ≡ status → other ≡ new → ((c : List ℕ) → fewer c → leaves c) → ScriptEnds status left leaves old new → ScriptEnds answered left fewer old other
+ends_told status answered left leaves fewer old new other same is narrows e =
+    subst (λ (h : HomeState). ScriptEnds answered left fewer old h) (sym is) (subst (λ (n : ℕ). ScriptEnds n left fewer old new) (sym same) (ends_narrowed status left leaves fewer old new narrows e))

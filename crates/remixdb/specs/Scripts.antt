@@ -119,26 +119,29 @@ pub record IsIdle (old new : HomeState) : Type 0 where
   pub silent : IsSilent old new
   pub strip : new.strip ≡ old.strip
 
--- no session was served: nothing was taken or put, and what reopened to a map before reopens to the same
-pub record NotServed (old new : HomeState) : Type 0 where
+-- No session was served: nothing was taken or put, and what reopened to a map before reopens to the same. So does each
+-- crash image, or a crash might have left it before.
+pub record NotServed (left leaves : List ℕ → Type 0) (old new : HomeState) : Type 0 where
   pub silent : IsSilent old new
   pub alike : OfStrip old (λ before. OfStrip new (ReopensAlike before))
+  pub images : OfStrip old (λ before. OfStrip new (λ _. (image : List ℕ) → leaves image → left image ⊎ ReopensAlike before image))
 
 -- Bytes that are whole requests: up to a QUIT, after which anything may stand, or to their end.
 abbrev pub IsWellFormed : List ℕ → Type 0
 IsWellFormed input = (requests : List Request) × (rest : List ℕ) × AllByRecursion IsRequest requests
     × (input ≡ spell_requests requests ++ rest) × (EndsWithQuit requests ⊎ (rest ≡ []))
 
--- what a script with this status made of the bytes
-pub record ScriptEnds (status : ℕ) (leaves : List ℕ → Type 0) (old new : HomeState) : Type 0 where
+-- What a script with this status made of the bytes. `left` and `leaves` say what a crash may leave of the first strip
+-- before it and after it.
+pub record ScriptEnds (status : ℕ) (left leaves : List ℕ → Type 0) (old new : HomeState) : Type 0 where
   -- a session ended so, no failure of a device was told, and the devices have all entries
   pub ended : IsOfSession status → (s : Served leaves old new) × (status ≡ status_of (outcome_of_end s.end))
       × ((device : ℕ) → number_at s.units device ≡ 0) × HasAll leaves new s.now
   -- opening refused the devices, which reopen to no map
   pub refused : status ≡ 3 → IsIdle old new × OfStrip old (λ bytes. Reopens bytes → ⊥)
   -- a device failed before a session, or one was served all the same
-  pub failed : status ≡ 4 → NotServed old new ⊎ ((s : Served leaves old new) × HasAllIfTold leaves old new s.now s.units)
-  pub short : status ≡ 6 → NotServed old new ⊎ Served leaves old new
+  pub failed : status ≡ 4 → NotServed left leaves old new ⊎ ((s : Served leaves old new) × HasAllIfTold leaves old new s.now s.units)
+  pub short : status ≡ 6 → NotServed left leaves old new ⊎ Served leaves old new
   -- over devices that reopen to no map nothing is taken, put or written, whatever the status
   pub idle : OfStrip old Reopens ⊎ IsIdle old new
   pub others : OthersStay old new
@@ -154,9 +157,9 @@ pub record HasCauses (status : ℕ) (old new : HostState) : Type 0 where
   pub stream_kept : IsCleanOfStreams status → new.streams.faults ≡ old.streams.faults
 
 -- what the program does on these words, with this status
-pub record HasRun (words : List (List ℕ)) (status : ℕ) (leaves : List ℕ → Type 0) (old new : HostState) : Type 0 where
+pub record HasRun (words : List (List ℕ)) (status : ℕ) (left leaves : List ℕ → Type 0) (old new : HostState) : Type 0 where
   pub refused : (status ≡ 2) ↔ (IsScript words → ⊥)
   pub idle : (IsScript words → ⊥) → new ≡ old
   pub least : status ≤ 6
   pub causes : HasCauses status old new
-  pub bytes : IsScript words → ScriptEnds status leaves (home_of old) (home_of new)
+  pub bytes : IsScript words → ScriptEnds status left leaves (home_of old) (home_of new)

@@ -34,7 +34,8 @@ pub(crate) fn program<H: Host>(
     ensures memory { arguments.entry ≡ Err Memory → (result ≡ 6) × (H.state host.new ≡ H.state host.old) }
     ensures ran { IfOk arguments.entry (λ texts.
         ((result ≡ 6) × (H.state host.new ≡ H.state host.old))
-        ⊎ HasRun (words_after_name texts.now) result (H.strip_leaves host.new 0) (H.state host.old) (H.state host.new)) }
+        ⊎ HasRun (words_after_name texts.now) result (H.strip_leaves host.old 0) (H.strip_leaves host.new 0)
+        (H.state host.old) (H.state host.new)) }
 {
     let arguments = match arguments {
         Ok(arguments) => arguments,

@@ -17,7 +17,7 @@ pub(crate) fn script<H: Host>(alloc: Global, place: &Place, host: &mut H) -> Out
     ensures home { IsAllHome (H.state host.new) }
     ensures known { result ≢ UnknownWords }
     ensures causes { HasCauses (status_of result) (H.state host.old) (H.state host.new) }
-    ensures bytes { ScriptEnds (status_of result) (H.strip_leaves host.new 0)
+    ensures bytes { ScriptEnds (status_of result) (H.strip_leaves host.old 0) (H.strip_leaves host.new 0)
         (home_of (H.state host.old)) (home_of (H.state host.new)) }
 {
     let devices = match host.devices(alloc, place) {

@@ -34,7 +34,8 @@ fn run<H: Host>(alloc: Global, words: &[Word], host: &mut H) -> Outcome
     ensures idle { (IsScript words.now → ⊥) → H.state host.new ≡ H.state host.old }
     ensures causes { HasCauses (status_of result) (H.state host.old) (H.state host.new) }
     ensures bytes { IsScript words.now →
-        ScriptEnds (status_of result) (H.strip_leaves host.new 0) (home_of (H.state host.old)) (home_of (H.state host.new)) }
+        ScriptEnds (status_of result) (H.strip_leaves host.old 0) (H.strip_leaves host.new 0)
+        (home_of (H.state host.old)) (home_of (H.state host.new)) }
 {
     match command_of(alloc, words) {
         Some(Ok(Command::Script(place))) => script(alloc, &place, host),
@@ -78,7 +79,8 @@ pub fn remixdb<H: Host>(alloc: Global, words: &[Word], host: &mut H) -> u8
     // Where contracts can see the host's bytes: which requests came and were taken, what was put, to what the devices
     // reopen, also after a crash, and why it ended so.
     ensures bytes { IsScript words.now →
-        ScriptEnds result (H.strip_leaves host.new 0) (home_of (H.state host.old)) (home_of (H.state host.new)) }
+        ScriptEnds result (H.strip_leaves host.old 0) (H.strip_leaves host.new 0)
+        (home_of (H.state host.old)) (home_of (H.state host.new)) }
 {
     let outcome = run(alloc, words, host);
     tell(alloc, outcome, host);

@@ -76,20 +76,40 @@ fn host_of(rt: &(impl Abort + AllocGlobal), given: Given) -> Result<MemoryHost, 
     Ok(MemoryHost::new(alloc, devices, source, sink))
 }
 
-fn came_to(
-    rt: &(impl Abort + AllocGlobal),
-    host: &MemoryHost,
-    status: u8,
-    wanted: Wanted,
-) -> Result<(), Fail> {
+/// Whether there are bytes, and they are the ones that are wanted.
+pub fn are(bytes: Option<&[u8]>, wanted: &[u8]) -> bool {
+    match bytes {
+        Some(bytes) => bytes == wanted,
+        None => false,
+    }
+}
+
+/// The bytes of the first strip of the log, if the devices are at home.
+fn strip_of(host: &MemoryHost) -> Option<&[u8]> {
+    let devices = host.at_home()?;
+    let strip = devices.log.first()?;
+    Some(strip.as_bytes())
+}
+
+fn came_to(rt: &(impl Abort + AllocGlobal), host: &MemoryHost, status: u8, wanted: Wanted) {
     assert_eq!(rt; status, wanted.status);
-    assert_eq!(rt; host.output().ok_or("the streams are out")?, wanted.output);
-    assert_eq!(rt; host.remaining().ok_or("the streams are out")?, wanted.left);
-    let devices = host.at_home().ok_or("the devices are out")?;
-    let strip = devices.log.first().ok_or("no strip of the log")?;
-    assert_eq!(rt; strip.as_bytes(), wanted.strip);
-    assert_eq!(rt; host.notes(), wanted.notes);
-    Ok(())
+    assert!(rt; are(host.output(), wanted.output));
+    assert!(rt; are(host.remaining(), wanted.left));
+    assert!(rt; are(strip_of(host), wanted.strip));
+    assert!(rt; are(Some(host.notes()), wanted.notes));
+}
+
+/// The status of a run with these words. What the program promises of it does not come along, since each comparison after
+/// it would be searched for there.
+pub fn status_of<H: Host>(
+    rt: &(impl Abort + AllocGlobal),
+    words: &[&str],
+    host: &mut H,
+) -> Result<u8, Fail>
+    requires { IsAllHome (H.state host.old) }
+{
+    let words = words_of(rt, words)?;
+    Ok(remixdb(rt.alloc(), &words, host))
 }
 
 /// A run with these words comes to this.
@@ -99,10 +119,30 @@ pub fn run(
     given: Given,
     wanted: Wanted,
 ) -> Result<(), Fail> {
-    let words = words_of(rt, words)?;
     let mut host = host_of(rt, given)?;
-    let status = remixdb(rt.alloc(), &words, &mut host);
-    came_to(rt, &host, status, wanted)
+    let status = status_of(rt, words, &mut host)?;
+    came_to(rt, &host, status, wanted);
+    Ok(())
+}
+
+/// The status of the program on these arguments, its name first.
+fn program_status(
+    rt: &(impl Abort + AllocGlobal),
+    arguments: Result<&[&str], ArgumentsError>,
+    host: &mut MemoryHost,
+) -> Result<u8, Fail>
+    requires { IsAllHome (⟦<MemoryHost as Host>⟧.state host.old) }
+{
+    match arguments {
+        Ok(arguments) => {
+            let mut texts = Vec::new(rt.alloc());
+            for argument in arguments {
+                texts.push(String::from_str(rt.alloc(), argument)?)?;
+            }
+            Ok(program(rt.alloc(), Ok(&texts), host))
+        }
+        Err(error) => Ok(program(rt.alloc(), Err(error), host)),
+    }
 }
 
 /// The program on these arguments, its name first, comes to this.
@@ -113,17 +153,9 @@ pub fn run_program(
     wanted: Wanted,
 ) -> Result<(), Fail> {
     let mut host = host_of(rt, given)?;
-    let status = match arguments {
-        Ok(arguments) => {
-            let mut texts = Vec::new(rt.alloc());
-            for argument in arguments {
-                texts.push(String::from_str(rt.alloc(), argument)?)?;
-            }
-            program(rt.alloc(), Ok(&texts), &mut host)
-        }
-        Err(error) => program(rt.alloc(), Err(error), &mut host),
-    };
-    came_to(rt, &host, status, wanted)
+    let status = program_status(rt, arguments, &mut host)?;
+    came_to(rt, &host, status, wanted);
+    Ok(())
 }
 
 fn run_in_pieces(
@@ -134,13 +166,13 @@ fn run_in_pieces(
 ) -> Result<(), Fail>
     requires { 0 < most }
 {
-    let words = words_of(rt, &["script", "mem"])?;
     let mut host = PieceHost {
         host: host_of(rt, given)?,
         most,
     };
-    let status = remixdb(rt.alloc(), &words, &mut host);
-    came_to(rt, &host.host, status, wanted)
+    let status = status_of(rt, &["script", "mem"], &mut host)?;
+    came_to(rt, &host.host, status, wanted);
+    Ok(())
 }
 
 /// A session comes to this, whether its input comes whole or in pieces.
@@ -165,6 +197,18 @@ pub const HEADER: &[u8] = &[
     0xA5, 0, 0, 0, 0x11, 0, 0, 0, 0, 0, 0, 0, 0, 0, 0, 0, 0, 0, 0, 0, 0, 0,
 ];
 
+/// A strip with this header, and no frame after it.
+pub const HEADER_ALONE: &[u8] = &[
+    0xA5, 0, 0, 0, 0x11, 0, 0, 0, 0, 0, 0, 0, 0, 0, 0, 0, 0, 0, 0, 0, 0, 0, 0,
+];
+
+/// A strip with this header, and a frame of PUT `a` = `1`.
+pub const PUT_LOGGED: &[u8] = &[
+    0xA5, 0, 0, 0, 0x11, 0, 0, 0, 0, 0, 0, 0, 0, 0, 0, 0, 0, 0, 0, 0, 0, 0, 0xA5, 0, 0, 0, 0x21, 1,
+    0, 0, 0, 0, 0, 0, 0, 0, 0, 0, 0, 1, 0, 0, 0, 0, 0, 0, 0, 0, 0, 0, 0, 0, 0, 1, 0x61, 0, 0, 0, 1,
+    0x31, 0,
+];
+
 /// A frame of the entries that these PUTs make, of which the first has this number and this ordinal.
 pub fn frame_of(
     rt: &(impl Abort + AllocGlobal),
@@ -185,4 +229,36 @@ pub fn frame_of(
     }
     let len = u32::try_from(payload.len())?;
     concat(rt, &[&[0xA5], &len.to_be_bytes(), &payload])
+}
+
+/// A strip as a store leaves it that began empty: its header, and a frame with these updates, or none.
+fn log_of(rt: &(impl Abort + AllocGlobal), puts: &[&[u8]]) -> Result<Vec<u8>, Fail> {
+    if puts.is_empty() {
+        return concat(rt, &[HEADER, &[0]]);
+    }
+    let frame = frame_of(rt, 0, 0, puts)?;
+    concat(rt, &[HEADER, &frame, &[0]])
+}
+
+/// A session over streams and a strip that do not fail, its input whole and in pieces, ends with this status, does not
+/// take what is left of its input, puts this output, and logs these updates.
+pub fn ends_with(
+    rt: &(impl Abort + AllocGlobal),
+    status: u8,
+    input: &[&[u8]],
+    left: &[u8],
+    output: &[&[u8]],
+    updates: &[&[u8]],
+) -> Result<(), Fail> {
+    let input = concat(rt, input)?;
+    let output = concat(rt, output)?;
+    let strip = log_of(rt, updates)?;
+    let wanted = Wanted {
+        status,
+        output: &output,
+        left,
+        strip: &strip,
+        notes: if status == 0 { b"" } else { BAD },
+    };
+    script(rt, Given::input(&input), wanted)
 }

@@ -1,6 +1,6 @@
-//! When a PUT flushes the log: where enough is pending.
-use crate::tests::running::{Given, HEADER, Wanted, concat, frame_of, run};
-use crate::tests::samples::{BYE, DEVICE_0, FAULT_0, GET, PUT, QUIT};
+//! Flushes that fail: of a SYNC, and of a PUT where enough is pending.
+use crate::tests::running::{Given, HEADER, PUT_LOGGED, Wanted, concat, frame_of, run, script};
+use crate::tests::samples::{BYE, DEVICE_0, DONE_0, FAULT_0, GET, PUT, QUIT, SYNC, SYNCED_1};
 use std::process::Abort;
 use std::test::Fail;
 
@@ -62,4 +62,23 @@ fn a_put_is_refused_where_its_flush_fails(rt: HostRuntime) -> Result<(), Fail> {
         notes: DEVICE_0,
     };
     run(&rt, &["script", "mem"], given, wanted)
+}
+
+#[test]
+fn a_sync_that_fails_can_be_tried_again(rt: HostRuntime) -> Result<(), Fail> {
+    let input = concat(&rt, &[PUT, SYNC, SYNC, QUIT])?;
+    let output = concat(&rt, &[DONE_0, FAULT_0, SYNCED_1, BYE])?;
+    let given = Given {
+        // The frame's gate: the third call of the first SYNC.
+        device_fails: &[13],
+        ..Given::input(&input)
+    };
+    let wanted = Wanted {
+        status: 4,
+        output: &output,
+        left: &[],
+        strip: PUT_LOGGED,
+        notes: DEVICE_0,
+    };
+    script(&rt, given, wanted)
 }

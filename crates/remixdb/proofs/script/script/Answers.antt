@@ -7,7 +7,7 @@ use Rattle.session_core.specs.declared.session_end.SessionEnd.{SessionEnd}
 use Rattle.session_core.specs.declared.session_end.SessionEnd.TheVariants.{SourceFault, SinkFault}
 use Rattle.remixdb.specs.Outcomes.{status_of, outcome_of_run, outcome_of_refusal, IsCleanOfDevices, IsCleanOfStreams}
 use Rattle.remixdb.specs.Scripts.{HomeState, home_of, streams_at_home}
-use Rattle.remixdb.proofs.FirstLemmas.{with_first, with_was, counts_again, first-device, within-first, faults-first, others_stay, strip_at_home, first-leaves}
+use Rattle.remixdb.proofs.FirstLemmas.{with_first, with_was, counts_again, first-device, within-first, faults-first, others_stay, strip_at_home, first-leaves, leaves-first}
 use Rattle.remixdb.proofs.Failing.{SessionTold, session_told, refused_rose, refused_kept, refused_later, refused_not_five, one_rose, stream_ended, source_unclean, sink_unclean}
 use Rattle.remixdb.proofs.Serving.{Run, Refused, run_ends, run_failed, run_kept, refused_ends, failed_ends, failed_idle, failed_causes, told_later, ends_at, of_its_book, of_first}
 use Rattle.remixdb.proofs.script.script.Given.{Over}
@@ -64,16 +64,18 @@ returns-in-Err-open-clause-bytes g c =
     let w1 = with_first c.in-Err-open.devices o.beside _ o.now in
     let back = devices_back (g.H.Host.state c.args.host.now) _ (g.H.Host.state c.give_back.new.self) (device_bytes strip shelf c.in-Err-open.devices) (device_counts strip shelf c.in-Ok.devices) (device_counts strip shelf c.in-Err-open.devices) c.in-Ok.ensures.lent c.give_back.ensures.back in
     let stay = others_stay strip shelf c.in-Ok.devices c.in-Err-open.devices o.was o.now.first _ _ _ _ _ _ w0 w1 c.in-Ok.ensures.bytes back.devices in
-    let refused : Refused strip c.in-Err-open.error (home_of (g.H.Host.state c.args.host.now)) (home_of (g.H.Host.state c.give_back.new.self)) = record {
+    let refused : Refused strip c.in-Err-open.error (g.H.Host.strip_leaves c.args.host.now 0) (g.H.Host.strip_leaves c.give_back.new.self 0) (home_of (g.H.Host.state c.args.host.now)) (home_of (g.H.Host.state c.give_back.new.self)) = record {
       first = o.was;
       last = o.now.first;
       is_refused = o.now.holds;
       was = strip_at_home strip shelf c.in-Ok.devices o.was _ _ _ _ _ w0 c.in-Ok.ensures.bytes;
       is = strip_at_home strip shelf c.in-Err-open.devices o.now.first _ _ _ _ _ w1 back.devices;
+      widens = λ bytes left. (c.in-Ok.ensures.strip_images 0).0 bytes (leaves-first strip c.in-Ok.devices o.was _ _ _ _ bytes w0 left);
+      narrows = λ bytes left. first-leaves strip c.in-Err-open.devices o.now.first _ _ _ _ bytes w1 ((c.give_back.ensures.strip_images 0).0 bytes left);
       silent = record { input = ap (λ (l : Lent StreamBytes). (streams_at_home l.home).input) back.streams; output = ap (λ (l : Lent StreamBytes). (streams_at_home l.home).output) back.streams };
       others = record { strips = stay.0; files = stay.1 };
     } in
-    refused_ends strip c.in-Err-open.error _ _ _ refused _ (ap status_of c.of_refusal.ensures)
+    refused_ends strip c.in-Err-open.error _ _ _ _ refused _ (ap status_of c.of_refusal.ensures)
 
 -- ---- devices that were not handed out
 
@@ -83,7 +85,7 @@ returns-in-Err-clause-causes g c = failed_causes c.in-Err.error _ _ _ c.in-Err.e
 pub returns-in-Err-clause-bytes : goal.returns-in-Err-clause-bytes
 returns-in-Err-clause-bytes g c =
     let both = failed_idle c.in-Err.error _ _ c.in-Err.ensures.refused in
-    failed_ends c.in-Err.error _ _ _ _ both.0 both.1 (ap status_of c.of_failure.ensures)
+    failed_ends c.in-Err.error _ _ _ _ _ both.0 both.1 (λ bytes left. (c.in-Err.ensures.strips_kept 0).0 bytes left) (ap status_of c.of_failure.ensures)
 
 -- ---- a session
 
@@ -193,4 +195,4 @@ returns-clause-causes g c =
 
 pub returns-clause-bytes : goal.returns-clause-bytes
 unfolding run_of
-returns-clause-bytes g c = run_ends g.H.Strip.Strip _ _ _ (run_of g c) _ (ap status_of c.of_run.ensures)
+returns-clause-bytes g c = run_ends g.H.Strip.Strip _ _ _ _ (run_of g c) _ (ap status_of c.of_run.ensures)
