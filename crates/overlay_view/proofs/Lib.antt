@@ -1,0 +1,13 @@
+pub mod ListLemmas
+pub mod MergeStepLemmas
+pub mod FromLemmas
+pub mod PutLemmas
+pub mod ShownLemmas
+pub mod LevelLemmas
+pub mod PlaceLemmas
+pub mod OrderLemmas
+pub mod HeadLemmas
+pub mod CursorLemmas
+pub mod PlacedLemmas
+pub mod ReadLemmas
+pub mod NextLemmas
