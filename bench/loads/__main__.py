@@ -1,5 +1,5 @@
-"""Writes a load: the requests as one file, and the replies that they must get as another. With the word fill it
-writes those that come before the load.
+"""Writes a load: the requests as one file, and the replies that they must get as another. With the word fill or before
+it writes those that come before the load.
 
 The bench runs this in a process of its own, since a program that it starts counts the memory of
 the process that started it as its own peak.
@@ -13,7 +13,7 @@ from .writer import Writer
 
 def main(name: str, count: str, requests: str, replies: str, part: str) -> None:
     load = all_loads()[name]
-    write = load.fill if part == "fill" else load.write
+    write = {"fill": load.fill, "before": load.before}.get(part, load.write)
     assert write is not None
     with open(requests, "wb") as asked, open(replies, "wb") as wanted:
         write(Writer(asked, wanted), int(count))

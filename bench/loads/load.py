@@ -13,11 +13,13 @@ TWO_SYNCS = "plain with two syncs"
 
 
 class Aim(NamedTuple):
-    """What RemixDB may use at most, in ratios to another program."""
+    """What RemixDB may use at most, beside another program: ratios, or more memory by so much."""
 
     time: Optional[float]
     memory: Optional[float]
     beside: str = PLAIN
+    more: Optional[int] = None
+    """How many MiB of memory it may use more."""
 
 
 class Load(NamedTuple):
@@ -35,3 +37,6 @@ class Load(NamedTuple):
 
     fill: Optional[Callable[[Writer, int], None]] = None
     """Requests that each program is asked once, before its runs, so that each opens what they left."""
+
+    before: Optional[Callable[[Writer, int], None]] = None
+    """Requests that each run is asked first. The time begins once they are answered."""

@@ -20,4 +20,4 @@ def write(writer: Writer, count: int) -> None:
             writer.put(keys[-1], some_bytes(source, VALUE_BYTES))
 
 
-LOAD = Load("random puts and gets", 1_000_000, write, (Aim(time=1.5, memory=3),))
+LOAD = Load("random puts and gets", 1_000_000, write, (Aim(time=1.5, memory=2.0),))

@@ -12,4 +12,4 @@ def write(writer: Writer, count: int) -> None:
         writer.put(number.to_bytes(KEY_BYTES, "big"), some_bytes(source, VALUE_BYTES))
 
 
-LOAD = Load("puts in rising order", 200_000, write, (Aim(time=1.5, memory=3),))
+LOAD = Load("puts in rising order", 200_000, write, (Aim(time=1.5, memory=2.2),))

@@ -49,7 +49,14 @@ class Measured(NamedTuple):
         """What an aim is missed in. What is not known or not aimed at is not missed."""
         tests = [("time", seconds, aim.time), ("memory", memory, aim.memory)]
         found = [(name, self.ratio(figure, aim.beside), most) for name, figure, most in tests]
-        return [name for name, ratio, most in found if ratio and most and ratio.median > most]
+        missed = [name for name, ratio, most in found if ratio and most and ratio.median > most]
+        more = self.more_memory(aim.beside)
+        return missed + ["memory"] if aim.more and more and more > aim.more else missed
+
+    def more_memory(self, other: str) -> Optional[float]:
+        """How many MiB more RemixDB held than another program, by the medians."""
+        ours, theirs = self.middle(REMIXDB, memory), self.middle(other, memory)
+        return None if ours is None or theirs is None else (ours - theirs) / 1_024
 
     def misses(self) -> bool:
         return any(self.missed(aim) for aim in self.load.aims)
@@ -80,12 +87,13 @@ def told(ratio: object) -> str:
 
 def told_aim(measured: Measured, aim: Aim) -> str:
     """An aim, and whether it is met."""
-    parts = [("time", aim.time), ("memory", aim.memory)]
-    text = ", ".join(f"{name} {most}" for name, most in parts if most)
+    parts = [("time", aim.time, ""), ("memory", aim.memory, ""), ("memory", aim.more, " MiB more")]
+    text = ", ".join(f"{name} {most}{unit}" for name, most, unit in parts if most)
     misses = measured.missed(aim)
     if misses:
         return f"{text}: {' and '.join(misses)} missed"
-    if aim.memory is None or measured.ratio(memory, aim.beside) is not None:
+    is_of_memory = aim.memory is not None or aim.more is not None
+    if not is_of_memory or measured.ratio(memory, aim.beside) is not None:
         return f"{text}: met"
     return f"{text}: {'met in time, ' if aim.time else ''}memory not known"
 

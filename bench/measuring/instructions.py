@@ -66,8 +66,8 @@ def counted(
 def counted_for_requests(
     counter: Counter, load: Load, program: Program, files: Files, folder: Path
 ) -> Optional[int]:
-    """The instructions of a load without those of a start and an end."""
-    nothing = Files(folder / "nothing", folder / "nothing", folder / "replies")
+    """The instructions of a load without those of a start and an end, and of what comes before."""
+    nothing = Files(folder / "nothing", folder / "nothing", folder / "replies", before=files.before)
     nothing.requests.touch()
     idle = counted(counter, load._replace(is_one_at_a_time=False), program, nothing, folder)
     fill(program, files)

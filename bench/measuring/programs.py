@@ -47,6 +47,9 @@ class Files(NamedTuple):
     filling: Optional["Files"] = None
     """What is asked before it, once."""
 
+    before: Optional["Files"] = None
+    """What is asked before it, in each run."""
+
 
 def find(command: str) -> str:
     """A command that the bench cannot do without."""
@@ -110,9 +113,10 @@ def over_files(built: Built, places: Path) -> List[Program]:
 
 
 def write_load(name: str, load: Load, count: int, folder: Path) -> Files:
-    """Has a load written, with what fills a log before it."""
+    """Has a load written, with what comes before it."""
     filling = write_part(name, count, folder, "fill") if load.fill else None
-    return write_part(name, count, folder, "load")._replace(filling=filling)
+    before = write_part(name, count, folder, "before") if load.before else None
+    return write_part(name, count, folder, "load")._replace(filling=filling, before=before)
 
 
 def write_part(name: str, count: int, folder: Path, part: str) -> Files:

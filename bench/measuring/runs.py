@@ -7,12 +7,18 @@ import os
 import resource
 import shutil
 import subprocess
+import threading
 import time
-from typing import Dict, List, NamedTuple, Optional
+from pathlib import Path
+from typing import IO, Callable, Dict, List, NamedTuple, Optional
 
 from loads import Load
 
 from .programs import Failure, Files, Program
+
+
+PIECE = 1 << 20
+"""How many bytes are moved at once between a file and a pipe."""
 
 
 class Cost(NamedTuple):
@@ -42,6 +48,12 @@ def wait(child: "subprocess.Popen[bytes]", program: Program) -> resource.struct_
     return usage
 
 
+def compare_replies(program: Program, files: Files) -> None:
+    """Compares the replies of a run with the wanted ones."""
+    if not filecmp.cmp(files.replies, files.wanted, shallow=False):
+        raise Failure(f"{program.name} gave other replies than are wanted")
+
+
 def run_on_files(program: Program, files: Files) -> Cost:
     """Runs a program from a file to a file, and compares its replies with the wanted ones."""
     with open(files.requests, "rb") as requests, open(files.replies, "wb") as replies:
@@ -49,9 +61,57 @@ def run_on_files(program: Program, files: Files) -> Cost:
         child = subprocess.Popen(program.command, stdin=requests, stdout=replies)
         usage = wait(child, program)
         seconds = time.perf_counter() - start
-    if not filecmp.cmp(files.replies, files.wanted, shallow=False):
-        raise Failure(f"{program.name} gave other replies than are wanted")
+    compare_replies(program, files)
     return Cost(seconds, usage.ru_utime + usage.ru_stime, memory_of(usage))
+
+
+def feed(requests: Path, into: IO[bytes]) -> None:
+    """Writes requests, as long as there is a reader."""
+    with open(requests, "rb") as source:
+        try:
+            shutil.copyfileobj(source, into, PIECE)
+        except BrokenPipeError:
+            pass
+
+
+def ask_all(child: "subprocess.Popen[bytes]", files: Files) -> None:
+    """Sends requests, and takes as many bytes as their replies have."""
+    assert child.stdin is not None and child.stdout is not None
+    feeder = threading.Thread(target=feed, args=(files.requests, child.stdin))
+    feeder.start()
+    left = files.wanted.stat().st_size
+    with open(files.replies, "wb") as replies:
+        while left:
+            piece = child.stdout.read(min(left, PIECE))
+            if not piece:
+                break
+            replies.write(piece)
+            left -= len(piece)
+    feeder.join()
+
+
+def processor_so_far(child: "subprocess.Popen[bytes]") -> float:
+    """The processor time that a child has taken, as Linux tells it."""
+    fields = Path(f"/proc/{child.pid}/stat").read_text().rpartition(")")[2].split()
+    return (int(fields[11]) + int(fields[12])) / os.sysconf("SC_CLK_TCK")
+
+
+def run_after(program: Program, files: Files) -> Cost:
+    """Runs a program over pipes on what comes before a load and then on the load, and takes the time of the load alone."""
+    assert files.before is not None
+    with subprocess.Popen(
+        program.command, bufsize=0, stdin=subprocess.PIPE, stdout=subprocess.PIPE
+    ) as child:
+        assert child.stdin is not None
+        ask_all(child, files.before)
+        processor, start = processor_so_far(child), time.perf_counter()
+        ask_all(child, files)
+        seconds = time.perf_counter() - start
+        child.stdin.close()
+        usage = wait(child, program)
+    compare_replies(program, files.before)
+    compare_replies(program, files)
+    return Cost(seconds, usage.ru_utime + usage.ru_stime - processor, memory_of(usage))
 
 
 def cut_frames(data: bytes) -> List[bytes]:
@@ -112,8 +172,14 @@ def run_once(load: Load, program: Program, files: Files) -> Cost:
     """Runs a program on a load, over an empty folder or over what filled it."""
     if files.filling is None:
         empty(program)
-    run = run_one_at_a_time if load.is_one_at_a_time else run_on_files
-    return run(program, files)
+    return run_of(load, files)(program, files)
+
+
+def run_of(load: Load, files: Files) -> Callable[[Program, Files], Cost]:
+    """How a load is run."""
+    if files.before:
+        return run_after
+    return run_one_at_a_time if load.is_one_at_a_time else run_on_files
 
 
 def fill(program: Program, files: Files) -> None:

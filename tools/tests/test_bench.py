@@ -68,6 +68,13 @@ class Figures(unittest.TestCase):
         self.assertEqual(self.told(Aim(None, 1.9, LOGGING)), "memory 1.9: memory missed")
         self.assertEqual(self.told(Aim(2.9, 1.9, LOGGING)), "time 2.9, memory 1.9: time and memory missed")
 
+    def test_an_aim_may_be_so_much_memory_more(self) -> None:
+        measured = self.measured(Aim(None, None, LOGGING, more=1))
+        self.assertEqual(self.told(Aim(None, None, LOGGING, more=1)), "memory 1 MiB more: met")
+        measured.costs["remixdb"] = [Cost(1, 1, 1_300)] * 3
+        aim = measured.load.aims[0]
+        self.assertEqual(told_aim(measured, aim), "memory 1 MiB more: memory missed")
+
     def test_each_aim_has_a_row_of_its_own(self) -> None:
         measured = self.measured(Aim(1.5, None), Aim(None, 2.0, LOGGING))
         table = "| 1,000 puts | 9 | 9 | 1.5 |\n| 1,000 puts, beside plain with a log | | | |\n"
