@@ -15,26 +15,27 @@ const ONE: &[u8] =
 const TWO: &[u8] =
     b"\xA5\0\0\0\x11\0\0\0\0\0\0\0\0\0\0\0\0\0\0\0\0\0\xA5\0\0\0\x21\x01\0\0\0\0\0\0\0\0\0\0\0\x01\0\0\0\0\0\0\0\0\0\0\0\0\0\x01a\0\0\0\x011\xA5\0\0\0\x21\x01\0\0\0\0\0\0\0\x01\0\0\0\x01\0\0\0\0\0\0\0\0\0\0\0\0\0\x01b\0\0\0\x012\0";
 
-/// A strip with these bytes, of which no call fails.
-fn strip_of(alloc: Global, bytes: &[u8]) -> Result<MemoryStrip, Fail> {
-    let bytes = Vec::from_slice(alloc, bytes)?;
-    Ok(MemoryStrip::new(alloc, 0, bytes, Vec::new(alloc))?)
-}
+/// The header, DELETE a as entry 0, and a closed gate.
+const DELETED: &[u8] =
+    b"\xA5\0\0\0\x11\0\0\0\0\0\0\0\0\0\0\0\0\0\0\0\0\0\xA5\0\0\0\x20\x01\0\0\0\0\0\0\0\0\0\0\0\x01\0\0\0\0\0\0\0\0\0\0\0\0\0\x01a\xFF\xFF\xFF\xFF\0";
 
-/// A store over a strip, or the strip and why it is refused.
-fn open(
-    alloc: Global,
-    strip: MemoryStrip,
-) -> Result<StorePass<MemoryStrip>, (MemoryStrip, OpenError)> {
-    StorePass::open(alloc, strip)
-}
+/// ONE, and after it, in one frame, two deletions of a as entries 1 and 2.
+const TWICE_DELETED: &[u8] =
+    b"\xA5\0\0\0\x11\0\0\0\0\0\0\0\0\0\0\0\0\0\0\0\0\0\xA5\0\0\0\x21\x01\0\0\0\0\0\0\0\0\0\0\0\x01\0\0\0\0\0\0\0\0\0\0\0\0\0\x01a\0\0\0\x011\xA5\0\0\0\x33\x01\0\0\0\0\0\0\0\x01\0\0\0\x02\0\0\0\0\0\0\0\0\0\0\0\0\0\x01a\xFF\xFF\xFF\xFF\0\0\0\0\0\0\0\0\0\0\0\x01\0\x01a\xFF\xFF\xFF\xFF\0";
 
-fn opened(alloc: Global, bytes: &[u8]) -> Result<StorePass<MemoryStrip>, Fail> {
-    let strip = strip_of(alloc, bytes)?;
-    match open(alloc, strip) {
-        Ok(pass) => Ok(pass),
-        Err(_refused) => Err("the strip is refused")?,
-    }
+/// A call of a store, and what it is to answer.
+#[derive(Clone, Copy)]
+enum Call {
+    /// A put of this value at this key has this number.
+    Put(&'static [u8], &'static [u8], u64),
+    /// A deletion of this key has this number.
+    Delete(&'static [u8], u64),
+    /// A get of this key has this front, and this value or none.
+    Get(&'static [u8], u64, Option<&'static [u8]>),
+    /// A sync has this front.
+    Sync(u64),
+    /// The rows in memory have a change at this key, be it a deletion, or none.
+    Find(&'static [u8], bool),
 }
 
 fn put(
@@ -53,64 +54,67 @@ fn delete(alloc: Global, pass: &mut StorePass<MemoryStrip>, key: &[u8]) -> Resul
     Ok(pass.delete(alloc, key)?)
 }
 
-fn sync(alloc: Global, pass: &mut StorePass<MemoryStrip>) -> Result<u64, Fail> {
-    Ok(pass.sync(alloc)?)
-}
-
 fn get(alloc: Global, pass: &StorePass<MemoryStrip>, key: &[u8]) -> Result<Found, Fail> {
     let key = Key::try_new(alloc, key)?;
     Ok(pass.get(alloc, &key)?)
 }
 
-/// Whether a put has this number.
-fn puts(
-    alloc: Global,
-    pass: &mut StorePass<MemoryStrip>,
-    key: &[u8],
-    value: &[u8],
-    number: u64,
-) -> Result<bool, Fail> {
-    Ok(put(alloc, pass, key, value)? == number)
+fn sync(alloc: Global, pass: &mut StorePass<MemoryStrip>) -> Result<u64, Fail> {
+    Ok(pass.sync(alloc)?)
 }
 
-/// Whether a deletion has this number.
-fn deletes(
-    alloc: Global,
-    pass: &mut StorePass<MemoryStrip>,
-    key: &[u8],
-    number: u64,
-) -> Result<bool, Fail> {
-    Ok(delete(alloc, pass, key)? == number)
+fn find(alloc: Global, pass: &StorePass<MemoryStrip>, key: &[u8]) -> Result<bool, Fail> {
+    let key = Key::try_new(alloc, key)?;
+    Ok(pass.map.find(&key).is_some())
 }
 
-/// Whether a sync answers with this front.
-fn syncs(alloc: Global, pass: &mut StorePass<MemoryStrip>, front: u64) -> Result<bool, Fail> {
-    Ok(sync(alloc, pass)? == front)
-}
-
-/// Whether a get has this front, and this value or none.
-fn gets(
-    alloc: Global,
-    pass: &StorePass<MemoryStrip>,
-    key: &[u8],
-    front: u64,
-    value: Option<&[u8]>,
-) -> Result<bool, Fail> {
-    let found = get(alloc, pass, key)?;
-    Ok(found.front == front && is_value(&found.value, value))
-}
-
-fn is_value(found: &Option<Value>, wanted: Option<&[u8]>) -> bool {
-    match (found, wanted) {
+fn is_found(found: &Found, front: u64, wanted: Option<&[u8]>) -> bool {
+    let value = match (&found.value, wanted) {
         (Some(value), Some(wanted)) => value.as_bytes() == wanted,
         (found, wanted) => found.is_none() && wanted.is_none(),
+    };
+    value && found.front == front
+}
+
+/// Whether the call answers so.
+fn answers(alloc: Global, pass: &mut StorePass<MemoryStrip>, call: &Call) -> Result<bool, Fail> {
+    match call {
+        Call::Put(key, value, number) => Ok(put(alloc, pass, key, value)? == *number),
+        Call::Delete(key, number) => Ok(delete(alloc, pass, key)? == *number),
+        Call::Get(key, front, value) => Ok(is_found(&get(alloc, pass, key)?, *front, *value)),
+        Call::Sync(front) => Ok(sync(alloc, pass)? == *front),
+        Call::Find(key, there) => Ok(find(alloc, pass, key)? == *there),
     }
 }
 
-/// Whether the rows in memory have a change at a key, be it a deletion.
-fn has_change(alloc: Global, pass: &StorePass<MemoryStrip>, key: &[u8]) -> Result<bool, Fail> {
-    let key = Key::try_new(alloc, key)?;
-    Ok(pass.map.find(&key).is_some())
+fn all_answer(
+    alloc: Global,
+    pass: &mut StorePass<MemoryStrip>,
+    calls: &[Call],
+) -> Result<bool, Fail> {
+    for call in calls {
+        if !answers(alloc, pass, call)? {
+            return Ok(false);
+        }
+    }
+    Ok(true)
+}
+
+/// A store over a strip with these bytes, of which no call fails; or the strip, and why it is refused.
+fn try_open(
+    alloc: Global,
+    bytes: &[u8],
+) -> Result<Result<StorePass<MemoryStrip>, (MemoryStrip, OpenError)>, Fail> {
+    let bytes = Vec::from_slice(alloc, bytes)?;
+    let strip = MemoryStrip::new(alloc, 0, bytes, Vec::new(alloc))?;
+    Ok(StorePass::open(alloc, strip))
+}
+
+fn opened(alloc: Global, bytes: &[u8]) -> Result<StorePass<MemoryStrip>, Fail> {
+    match try_open(alloc, bytes)? {
+        Ok(pass) => Ok(pass),
+        Err(_refused) => Err("the strip is refused")?,
+    }
 }
 
 /// The strip of a store that is closed.
@@ -125,43 +129,52 @@ fn holds(strip: &MemoryStrip, bytes: &[u8]) -> bool {
     strip.as_bytes() == bytes
 }
 
+/// Whether a store over a strip with the bytes `before` answers these calls so, and leaves the bytes `after`.
+fn leads(alloc: Global, before: &[u8], calls: &[Call], after: &[u8]) -> Result<bool, Fail> {
+    let mut pass = opened(alloc, before)?;
+    let answered = all_answer(alloc, &mut pass, calls)?;
+    let strip = closed(alloc, pass)?;
+    Ok(answered && holds(&strip, after))
+}
+
 #[test]
 fn a_put_that_is_synced_has_these_bytes(rt: HostRuntime) -> Result<(), Fail> {
-    let mut pass = opened(rt.alloc(), b"")?;
-    assert!(rt; puts(rt.alloc(), &mut pass, b"a", b"1", 0)?);
-    assert!(rt; syncs(rt.alloc(), &mut pass, 1)?);
-    assert!(rt; gets(rt.alloc(), &pass, b"a", 1, Some(b"1"))?);
-    let strip = closed(rt.alloc(), pass)?;
-    assert!(rt; holds(&strip, ONE));
+    let calls = [
+        Call::Put(b"a", b"1", 0),
+        Call::Sync(1),
+        Call::Get(b"a", 1, Some(b"1")),
+    ];
+    assert!(rt; leads(rt.alloc(), b"", &calls, ONE)?);
     Ok(())
 }
 
 #[test]
 fn a_delete_of_an_absent_key_is_an_update_and_makes_no_row(rt: HostRuntime) -> Result<(), Fail> {
-    let mut pass = opened(rt.alloc(), b"")?;
-    assert!(rt; deletes(rt.alloc(), &mut pass, b"a", 0)?);
-    assert!(rt; gets(rt.alloc(), &pass, b"a", 1, None)?);
-    assert!(rt; !has_change(rt.alloc(), &pass, b"a")?);
+    let calls = [
+        Call::Delete(b"a", 0),
+        Call::Get(b"a", 1, None),
+        Call::Find(b"a", false),
+    ];
+    assert!(rt; leads(rt.alloc(), b"", &calls, DELETED)?);
     Ok(())
 }
 
 #[test]
 fn a_delete_after_a_put_hides_the_value(rt: HostRuntime) -> Result<(), Fail> {
-    let mut pass = opened(rt.alloc(), ONE)?;
-    assert!(rt; deletes(rt.alloc(), &mut pass, b"a", 1)?);
-    assert!(rt; gets(rt.alloc(), &pass, b"a", 2, None)?);
-    assert!(rt; has_change(rt.alloc(), &pass, b"a")?);
-    assert!(rt; deletes(rt.alloc(), &mut pass, b"a", 2)?);
+    let calls = [
+        Call::Delete(b"a", 1),
+        Call::Get(b"a", 2, None),
+        Call::Find(b"a", true),
+        Call::Delete(b"a", 2),
+    ];
+    assert!(rt; leads(rt.alloc(), ONE, &calls, TWICE_DELETED)?);
     Ok(())
 }
 
 #[test]
 fn a_store_that_is_opened_again_numbers_on(rt: HostRuntime) -> Result<(), Fail> {
-    let mut pass = opened(rt.alloc(), ONE)?;
-    assert!(rt; gets(rt.alloc(), &pass, b"a", 1, Some(b"1"))?);
-    assert!(rt; puts(rt.alloc(), &mut pass, b"b", b"2", 1)?);
-    let strip = closed(rt.alloc(), pass)?;
-    assert!(rt; holds(&strip, TWO));
+    let calls = [Call::Get(b"a", 1, Some(b"1")), Call::Put(b"b", b"2", 1)];
+    assert!(rt; leads(rt.alloc(), ONE, &calls, TWO)?);
     Ok(())
 }
 
@@ -181,8 +194,7 @@ fn printed(alloc: Global, error: &OpenError) -> Result<String, Fail> {
 /// Why ONE with this byte in place of the one at this place is refused, as it is printed.
 fn refusal(alloc: Global, at: usize, byte: u8) -> Result<String, Fail> {
     let made = changed(alloc, at, byte)?;
-    let strip = strip_of(alloc, made.as_slice())?;
-    match open(alloc, strip) {
+    match try_open(alloc, made.as_slice())? {
         Ok(_pass) => Err("it was opened")?,
         Err((_strip, error)) => printed(alloc, &error),
     }
